@@ -21,6 +21,9 @@ def rt_library():
     library = importlib.util.module_from_spec(importlib.util.spec_from_loader("rtlib", loader))
     sys.modules["rtlib"] = library
     loader.exec_module(library)
+    # Each asks the same of the crates below, once for each way to them.
+    library.Crate.stamp = functools.cache(library.Crate.stamp)
+    library.Crate.below = functools.cache(library.Crate.below)
     library.guarded()
     return library
 

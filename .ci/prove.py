@@ -1,11 +1,12 @@
 #!/usr/bin/env python3
-"""Proves crates, side by side where none depends on the other, and builds what they are for: prove.py [survey|run|library]..
+"""Proves crates, side by side where none depends on the other, and builds what they are for: prove.py [survey|run|library|page]..
 
     run       the program acpins: crates/acpins/out/acpins, and acpins-static where the host's C library is an archive
     survey    the program acpins-survey: crates/acpins_survey/out/acpins_survey, and acpins_survey-static
     library   the static library for C and Rust: crates/acpins_c/out/llvm/libacpins.a and out/rattle/libacpins.a
+    page      what the page acpins.html has in it: crates/acpins_browser/out/module.bc, a module of LLVM
 
-Without an argument it makes all three. Every minute it says on standard error what is being proved, how much is done and about how
+Without an argument it makes all four. Every minute it says on standard error what is being proved, how much is done and about how
 long it still takes, by the processor minutes of each crate in .ci/minutes.txt and how fast this machine is. It may be ended at any
 time: a crate that was proved as it stands, over what it depends on now, is not proved again. The crates are proved by the kit's own
 `rt`, whose parts this script calls, since one `rt` keeps every other out of the folders that it reads, and as its gate does it:
@@ -22,8 +23,9 @@ from concurrent.futures import FIRST_COMPLETED, ThreadPoolExecutor, wait
 
 sys.dont_write_bytecode = True
 from kit import TOP, bytes_of, crate_of, made_from, rt_library, sources_sum, stamp_of, unproved, write  # noqa: E402
+from wasm import lower  # noqa: E402
 
-CRATES = {"run": "acpins", "survey": "acpins_survey", "library": "acpins_c"}  # the crate of each argument
+CRATES = {"run": "acpins", "survey": "acpins_survey", "library": "acpins_c", "page": "acpins_browser"}  # the crate of each argument
 BACKENDS = ("llvm", "rattle")  # the compilers of the library
 LINES_A_MINUTE = 400  # of a crate whose minutes nobody has recorded
 START = time.monotonic()
@@ -164,23 +166,58 @@ def archive_of(backend):
     return f"{TOP}/crates/acpins_c/out/{backend}/libacpins.a"
 
 
-def archives_sum(crate):
-    return f"{crate.folder}/out/archives.made-from"
+def lowered_page(crate):
+    return f"{crate.folder}/out/module.bc"
+
+
+def made_files(crate):
+    """The files for which a static library is proved."""
+    return [lowered_page(crate)] if crate.name == CRATES["page"] else [archive_of(it) for it in BACKENDS]
+
+
+def sum_file(crate):
+    """The file with the checksum of what these were made from."""
+    return f"{crate.folder}/out/made-from"
+
+
+def build_page(crate, jobs, niceness):
+    """The same of the page."""
+    os.nice(niceness)
+    os.makedirs(f"{crate.folder}/out", exist_ok=True)
+    begun = made_from(crate)
+    write(sum_file(crate), "")
+    with tempfile.TemporaryFile("w+", errors="replace") as crate.out, tempfile.TemporaryDirectory() as room:
+        status = lower(crate, jobs, room, lowered_page(crate))
+        crate.out.seek(0)
+        said = crate.out.read()
+    if not status and begun == made_from(crate):
+        write(sum_file(crate), begun)
+    return status, said
+
+
+def protect(archive):
+    """Names the section of tables with references, which only a linker writes, so that the host's linker makes it read-only."""
+    tool = shutil.which("objcopy")
+    if tool:
+        subprocess.run([tool, "-D", "--rename-section", ".data=.data.rel.ro", archive], check=True)
 
 
 def build_archives(crate, jobs, niceness):
     """The same of the library, by both compilers."""
     os.nice(niceness)
     begun, status, said = made_from(crate), 0, ""
-    write(archives_sum(crate), "")
+    os.makedirs(f"{crate.folder}/out", exist_ok=True)
+    write(sum_file(crate), "")
     for backend in BACKENDS:
         os.makedirs(os.path.dirname(archive_of(backend)), exist_ok=True)
         with tempfile.TemporaryFile("w+", errors="replace") as crate.out:
             status = status or crate.compile(["--jobs", str(jobs), "--backend", backend], archive_of(backend))
             crate.out.seek(0)
             said += crate.out.read()
+    if not status:
+        protect(archive_of("rattle"))
     if not status and begun == made_from(crate):
-        write(archives_sum(crate), begun)
+        write(sum_file(crate), begun)
     return status, said
 
 
@@ -189,12 +226,14 @@ def is_fresh(crate):
     if unproved(crate.below()):
         return False
     if crate.is_static:
-        return all(map(os.path.isfile, map(archive_of, BACKENDS))) and bytes_of(archives_sum(crate)).decode() == made_from(crate)
+        return all(map(os.path.isfile, made_files(crate))) and bytes_of(sum_file(crate)).decode() == made_from(crate)
     made = f"{crate.folder}/out/{crate.name}"
     return os.path.isfile(made) and bytes_of(f"{made}.made-from").decode() == sources_sum(crate.name)
 
 
 def maker_of(crate):
+    if crate.name == CRATES["page"]:
+        return build_page
     return build_program if crate.is_program else build_archives if crate.is_static else prove
 
 
@@ -250,7 +289,7 @@ def prove_targets(names, processors):
 def main():
     names = list(dict.fromkeys(sys.argv[1:])) or list(CRATES)
     if any(it not in CRATES for it in names):
-        sys.exit("usage: ./prove [survey|run|library]..")
+        sys.exit("usage: ./prove [survey|run|library|page]..")
     signal.signal(signal.SIGINT, signal.SIG_DFL)
     prove_targets(names, len(os.sched_getaffinity(0)))
 

@@ -1,7 +1,7 @@
 # Completion of acpins-survey(1) for bash.
 _acpins_survey() {
     local word=${COMP_WORDS[COMP_CWORD]} before=("${COMP_WORDS[@]:1:COMP_CWORD-1}") options='' option
-    local commands='bodies check html json list map report show uses'
+    local commands='bodies check diff html json list map report show uses'
     COMPREPLY=()
     if ((COMP_CWORD == 1)); then
         mapfile -t COMPREPLY < <(compgen -W "$commands help -h --help --version" -- "$word")
@@ -15,14 +15,15 @@ _acpins_survey() {
     fi
     case " ${before[*]} " in *' -- '*) return ;; esac
     case ${before[-1]} in
-        -h | --help | --version | --depth | --ignore | =)
+        -h | --help | --version | --depth | --ignore | --width | =)
             compopt +o default
             return
             ;;
     esac
     [[ $word == -* ]] || return
-    [[ ${before[0]} != @(report|check) ]] || case " ${before[*]} " in *' -v '*) ;; *) options=' -v' ;; esac
+    [[ ${before[0]} != @(report|check|diff) ]] || case " ${before[*]} " in *' -v '*) ;; *) options=' -v' ;; esac
     [[ ${before[0]} != check ]] || options+=' --ignore'
+    [[ ${before[0]} != report ]] || case " ${before[*]} " in *' --width '*) ;; *) options+=' --width' ;; esac
     [[ ${before[0]} != list ]] || case " ${before[*]} " in *' --bodies '*) ;; *) options=' --bodies' ;; esac
     for option in --depth --hex; do
         case " ${before[*]} " in

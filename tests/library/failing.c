@@ -1,7 +1,8 @@
-/* failing PATH FILE..: makes each call over the tables with each of its allocations refused in turn; PATH is that of
- * a method which a table declares, or empty where there is none. Each time all memory must be given back, and the
- * answer be either ACPINS_MEMORY, with nothing else told and the arrays as they were, or the same as when nothing is
- * refused (a list that can't be made shorter stays as it is). Then each array is one place too short. */
+/* failing PATH FILE..: makes each call over the tables with each of its allocations refused in turn; behind the first
+ * 2,048 the steps grow. PATH is that of a method which a table declares, or empty where there is none. Each time all
+ * memory must be given back, and the answer be either ACPINS_MEMORY, with nothing else told and the arrays as they were,
+ * or the same as when nothing is refused (a list that can't be made shorter stays as it is). Then each array is one
+ * place too short. */
 #include "acpins_heap.h"
 #include "tables.h"
 #include <stdio.h>
@@ -45,7 +46,7 @@ void rattle_dealloc(void *p) {
 
 /* ---- Arrays of a call */
 
-enum { ARRAYS = 5, GUARD = 64, FILLED = 0x5A };
+enum { ARRAYS = 7, GUARD = 64, FILLED = 0x5A };
 
 struct array {
     uint8_t *bytes;          /* `room` elements, and GUARD bytes behind them */
@@ -57,6 +58,7 @@ static struct array arrays[ARRAYS];
 static struct tables tables;
 static const char *path;
 static struct acpins_outcome outcome;
+static struct acpins_survey_outcome found; /* of calls of the survey */
 static struct acpins_body body;
 static struct acpins_verdict verdict;
 static uint32_t status, right; /* right: the status when nothing is refused */
@@ -123,6 +125,38 @@ static void call_rewrite(void) {
     arrays[1].used = status == ACPINS_REFUSED ? 0 : tables.count, arrays[1].size = sizeof(uint64_t);
 }
 
+static void call_survey(void) {
+    struct acpins_survey_arrays all = {
+        (void *)arrays[0].bytes, arrays[0].room, (void *)arrays[1].bytes, arrays[1].room, (void *)arrays[2].bytes,
+        arrays[2].room,          (void *)arrays[3].bytes, arrays[3].room, arrays[4].bytes, arrays[4].room,
+        (void *)arrays[5].bytes, arrays[5].room, arrays[6].bytes, arrays[6].room};
+    status = acpins_survey(tables.list, tables.count, 1024, &all, &found);
+    arrays[0].used = found.entries, arrays[0].size = sizeof(struct acpins_entry);
+    arrays[1].used = found.targets, arrays[1].size = sizeof(struct acpins_target);
+    arrays[2].used = found.literals, arrays[2].size = sizeof(struct acpins_literal);
+    arrays[3].used = found.problems + found.notes, arrays[3].size = sizeof(struct acpins_finding);
+    arrays[4].used = found.text, arrays[5].used = found.parts, arrays[5].size = sizeof(struct acpins_part);
+    arrays[6].used = found.bytes;
+}
+
+static void call_text(uint32_t what) {
+    status = acpins_survey_text(tables.list, tables.count, 1024, what, (const uint8_t *)"\\", 1, arrays[0].bytes, arrays[0].room,
+                                &found);
+    arrays[0].used = found.text;
+}
+
+static void call_list(void) { call_text(ACPINS_LIST); }
+static void call_json(void) { call_text(ACPINS_JSON); }
+static void call_report(void) { call_text(ACPINS_REPORT); }
+static void call_problems(void) { call_text(ACPINS_CHECK); }
+
+static void call_tables(void) {
+    struct acpins_table first = tables.count > 0 ? tables.list[0] : (struct acpins_table){NULL, 0};
+    status = acpins_tables(first.bytes, first.length, ACPINS_PLAIN, arrays[0].bytes, arrays[0].room, (void *)arrays[1].bytes,
+                           arrays[1].room, &found);
+    arrays[0].used = found.bytes, arrays[1].used = found.tables, arrays[1].size = sizeof(uint64_t);
+}
+
 /* ---- Tests */
 
 static const char *name;
@@ -162,20 +196,27 @@ static int is_told(const struct acpins_body *told_body, const struct acpins_verd
     return memcmp(&body, told_body, sizeof body) == 0 && memcmp(&verdict, told_verdict, sizeof verdict) == 0;
 }
 
-/* Each allocation refused in turn: how many there are. */
+enum { EACH = 2048 };
+
+/* Each allocation refused in turn, and of many behind the first ones some: how many were. */
 static size_t refuse_each(void (*call)(void), size_t *in_vain) {
     static const struct acpins_outcome nothing;
+    static const struct acpins_survey_outcome none;
     struct acpins_outcome told = outcome;
+    struct acpins_survey_outcome told_found = found;
+    int is_survey = !(call == call_load || call == call_body || call == call_check || call == call_rewrite);
     struct acpins_body told_body = body;
     struct acpins_verdict told_verdict = verdict;
-    for (size_t n = 1;; n++) {
+    size_t count = 0;
+    for (size_t n = 1;; n += 1 + n / EACH) {
         for (int i = 0; i < ARRAYS; i++) memset(arrays[i].bytes, FILLED, bytes_of(&arrays[i]));
         left = n;
         fill_records();
         call();
         int is_whole = status == right;
         CHECK(taken == 0 && (is_whole || status == ACPINS_MEMORY));
-        CHECK(memcmp(&outcome, is_whole ? &told : &nothing, sizeof outcome) == 0);
+        CHECK(memcmp(&outcome, is_whole || is_survey ? &told : &nothing, sizeof outcome) == 0);
+        CHECK(memcmp(&found, is_whole || !is_survey ? &told_found : &none, sizeof found) == 0);
         CHECK(is_whole ? is_told(&told_body, &told_verdict) : are_filled_records());
         for (int i = 0; i < ARRAYS; i++) {
             size_t size = bytes_of(&arrays[i]);
@@ -185,8 +226,9 @@ static size_t refuse_each(void (*call)(void), size_t *in_vain) {
         if (left > 0) {
             left = 0;
             CHECK(is_whole);
-            return n - 1;
+            return count;
         }
+        count++;
         *in_vain += (size_t)is_whole;
     }
 }
@@ -259,17 +301,27 @@ static void call_wrongly(void (*call)(void)) {
 static void test_wrong_calls(void) {
     static const uint32_t depths[] = {0, 4097, UINT32_MAX};
     struct acpins_arrays none = {0};
+    struct acpins_survey_arrays no_survey = {0};
     struct acpins_table empty = {NULL, 0};
     size_t n = 0;
     name = "wrong calls";
     call_wrongly(call_load), call_wrongly(call_body), call_wrongly(call_check), call_wrongly(call_rewrite);
+    call_wrongly(call_survey), call_wrongly(call_list);
     for (size_t i = 0; i < sizeof depths / sizeof *depths; i++) {
         CHECK((status = acpins_load(tables.list, tables.count, depths[i], &none, &outcome)) == ACPINS_CALL);
         CHECK((status = acpins_body(tables.list, tables.count, depths[i], (const uint8_t *)"\\", 1, NULL, 0, &body, &outcome)) ==
               ACPINS_CALL);
         CHECK((status = acpins_check(tables.list, tables.count, depths[i], NULL, 0, NULL, 0, &verdict, &outcome)) == ACPINS_CALL);
         CHECK((status = acpins_rewrite(tables.list, tables.count, depths[i], NULL, 0, NULL, 0, &outcome)) == ACPINS_CALL);
+        CHECK((status = acpins_survey(tables.list, tables.count, depths[i], &no_survey, &found)) == ACPINS_CALL);
+        CHECK((status = acpins_survey_text(tables.list, tables.count, depths[i], 1, NULL, 0, NULL, 0, &found)) == ACPINS_CALL);
     }
+    for (uint32_t what = 0; what < 20; what += what == 0 ? 12 : 1)
+        CHECK((status = acpins_survey_text(tables.list, tables.count, 9, what, NULL, 0, NULL, 0, &found)) == ACPINS_CALL);
+    status = acpins_survey_text(tables.list, tables.count, 9, ACPINS_SHOW, (const uint8_t *)"no", 2, NULL, 0, &found);
+    CHECK(status == ACPINS_BAD_PATH && taken == 0);
+    status = acpins_survey_text(tables.list, tables.count, 9, ACPINS_SHOW, (const uint8_t *)"\\NONE.NONE", 10, NULL, 0, &found);
+    CHECK(status == ACPINS_NO_OBJECT && taken == 0);
     status = acpins_load(&empty, 1, 1024, &none, &outcome);
     CHECK(status == ACPINS_REFUSED && outcome.reason == 0x5401 && outcome.table == 0 && outcome.text == 0);
 }
@@ -282,6 +334,8 @@ int main(int count, char **words) {
     if (path[0]) test("body", call_body);
     test("check", call_check);
     test("rewrite", call_rewrite);
+    test("survey", call_survey), test("list", call_list), test("json", call_json), test("report", call_report);
+    test("check of a survey", call_problems), test("tables of a file", call_tables);
     test_wrong_calls();
     free_tables(tables);
     return 0;

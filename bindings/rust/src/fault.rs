@@ -234,6 +234,8 @@ pub enum Fault {
     NoMethod,
     /// The text spells no path.
     BadPath,
+    /// No object may be at the path.
+    NoObject,
     /// The static library has records of another form, of this number, than this version of the
     /// crate.
     Abi(u32),
@@ -276,6 +278,7 @@ impl fmt::Display for Fault {
             Fault::BadDepth => f.write_str("the depth is none from 1 to 4096"),
             Fault::NoMethod => f.write_str("no table declares a method there"),
             Fault::BadPath => f.write_str("bad path"),
+            Fault::NoObject => f.write_str("no such path"),
             Fault::Abi(found) => write!(f, "the library has ABI {found}, not {}", raw::ABI),
         }
     }

@@ -22,6 +22,9 @@
 //! # }
 //! ```
 //!
+//! [`Survey::read`] reads every table: all that some run of it may declare, each with its condition, and
+//! what couldn't be read. [`Machine::load`] loads strictly, and refuses what has faults or computes:
+//!
 //! [`Machine::load`] gives all objects, in the order of their paths; [`body`] what the method at a
 //! path does; [`check`] whether the SSDTs may be loaded in any order; [`rewrite`] the tables in
 //! their shortest spelling. Each is a function of the tables' bytes and of the greatest nesting of
@@ -50,6 +53,8 @@ mod kind;
 mod machine;
 mod path;
 mod raw;
+mod survey;
+mod value;
 
 pub use calls::{body, check, rewrite, Body, Satisfied, Verdict};
 pub use data::{Data, Elements};
@@ -59,3 +64,5 @@ pub use fault::{
 pub use kind::{Constant, FieldUnit, Kind, Space, Width};
 pub use machine::{Children, Code, Links, Machine, Object, Objects};
 pub use path::{Path, Segments};
+pub use survey::{Entry, Finding, Literal, LiteralKind, Survey, Text};
+pub use value::{eisa_id, Resource, Resources, Value, Values};

@@ -1,8 +1,8 @@
-//! The records and calls of `bindings/c/acpins.h`, ABI 1, as they stand there.
+//! The records and calls of `bindings/c/acpins.h`, ABI 2, as they stand there.
 use crate::fault::Fault;
 use alloc::vec::Vec;
 
-pub const ABI: u32 = 1;
+pub const ABI: u32 = 2;
 pub const NONE: u64 = u64::MAX;
 
 pub const OK: u32 = 0;
@@ -11,6 +11,7 @@ pub const NO_ROOM: u32 = 3;
 pub const CALL: u32 = 4;
 pub const NO_METHOD: u32 = 5;
 pub const BAD_PATH: u32 = 6;
+pub const NO_OBJECT: u32 = 7;
 
 #[repr(C)]
 pub struct Table {
@@ -109,8 +110,114 @@ pub struct Satisfied {
     pub path_length: u64,
 }
 
+#[repr(C)]
+#[derive(Clone, Copy, Default)]
+pub struct SurveyOutcome {
+    pub tables: u64,
+    pub entries: u64,
+    pub literals: u64,
+    pub targets: u64,
+    pub parts: u64,
+    pub problems: u64,
+    pub notes: u64,
+    pub text: u64,
+    pub bytes: u64,
+    pub is_faulty: u64,
+}
+
+#[repr(C)]
+#[derive(Clone, Copy, Default)]
+pub struct Entry {
+    pub kind: u64,
+    pub line: u64,
+    pub line_length: u64,
+    pub path_length: u64,
+    pub target: u64,
+    pub targets: u64,
+    pub numbers: [u64; 6],
+    pub is_computed: u64,
+    pub parent: u64,
+    pub part: u64,
+    pub condition: u64,
+    pub table: u64,
+    pub place: u64,
+    pub length: u64,
+    pub code_place: u64,
+    pub code_length: u64,
+}
+
+#[repr(C)]
+#[derive(Clone, Copy, Default)]
+pub struct Target {
+    pub entry: u64,
+    pub link: u64,
+    pub is_certain: u64,
+}
+
+#[repr(C)]
+#[derive(Clone, Copy, Default)]
+pub struct Literal {
+    pub kind: u64,
+    pub before: u64,
+    pub table: u64,
+    pub place: u64,
+    pub text: u64,
+    pub text_length: u64,
+}
+
+#[repr(C)]
+#[derive(Clone, Copy, Default)]
+pub struct Finding {
+    pub reason: u64,
+    pub level: u64,
+    pub table: u64,
+    pub place: u64,
+    pub lost_from: u64,
+    pub lost_to: u64,
+    pub line: u64,
+    pub line_length: u64,
+}
+
+#[repr(C)]
+pub struct SurveyArrays {
+    pub entries: *mut Entry,
+    pub entry_room: usize,
+    pub targets: *mut Target,
+    pub target_room: usize,
+    pub literals: *mut Literal,
+    pub literal_room: usize,
+    pub findings: *mut Finding,
+    pub finding_room: usize,
+    pub text: *mut u8,
+    pub text_room: usize,
+    pub parts: *mut Part,
+    pub part_room: usize,
+    pub bytes: *mut u8,
+    pub byte_room: usize,
+}
+
 extern "C" {
     pub fn acpins_abi() -> u32;
+
+    pub fn acpins_survey(
+        tables: *const Table,
+        table_count: usize,
+        depth: u32,
+        arrays: *mut SurveyArrays,
+        outcome: *mut SurveyOutcome,
+    ) -> u32;
+
+    pub fn acpins_survey_text(
+        tables: *const Table,
+        table_count: usize,
+        depth: u32,
+        what: u32,
+        path: *const u8,
+        path_length: usize,
+        text: *mut u8,
+        text_room: usize,
+        outcome: *mut SurveyOutcome,
+    ) -> u32;
 
     pub fn acpins_load(
         tables: *const Table,

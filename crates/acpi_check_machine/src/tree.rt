@@ -51,7 +51,9 @@ fn objects_between<'o, 'a>(objects: &'o [Object<'a>], from: usize, to: usize) ->
 
 fn places_of(alloc: Global, objects: &[Object<'_>]) -> Result<Vec<usize>, AllocError> {
     let mut places = Vec::new(alloc);
-    places.resize(objects.len(), 0)?;
+    for _ in objects {
+        places.push(0usize)?;
+    }
     for (i, object) in objects.iter().enumerate() {
         if let Some(place) = places.get_mut(object.number) {
             *place = i;

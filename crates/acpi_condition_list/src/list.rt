@@ -112,7 +112,8 @@ impl ConditionList {
 
     // Puts a literal behind the others; its number.
     fn push(&mut self, step: ConditionStep) -> Result<usize, AllocError>
-        ensures grown { IfOk result (λ n. self.new.steps.items ≡ self.old.steps.items ++ step ∷ []) }
+        ensures grown { IfOk result (λ n. self.new.steps.items
+            ≡ self.old.steps.items ++ step ∷ []) }
         ensures number { IfOk result (λ n. slice_get self.new.steps.items n ≡ Some step) }
     {
         let number = self.steps.len();

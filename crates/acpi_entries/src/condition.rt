@@ -149,8 +149,8 @@ fn put_asks<'a>(literals: &mut Vec<PlacedLiteral<'a>>, entry: &'a Entry) -> Resu
     put_needs(literals, entry.term.place, &entry.asks.needs)
 }
 
-// The predicate of the If or While at a place.
-fn test_at(survey: &Survey, place: u128) -> Option<&Term>
+/// The predicate of the If or While at a place (ACPI 6.5, 20.2.5.3), if one stands there.
+pub fn test_at(survey: &Survey, place: u128) -> Option<&Term>
     ensures { AllTile survey.now.tables.items → option_map (λ t. term_view t.now) result
         ≡ predicate_at survey.now.tables.items place }
 {

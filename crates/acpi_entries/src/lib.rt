@@ -22,6 +22,6 @@ mod setting;
 
 pub use bodies::bodies_of;
 pub use body::{BodyReading, MethodBody, body_of};
-pub use condition::{Literal, PlacedLiteral, condition_of};
+pub use condition::{Literal, PlacedLiteral, condition_of, test_at};
 pub use links::{Link, links_in, links_of};
 pub use locals::find_behind;

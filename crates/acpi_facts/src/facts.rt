@@ -6,7 +6,7 @@ use crate::regions::{regions_of, set_sources};
 use crate::store_targets::StoreTargets;
 use crate::tables::table_of;
 use crate::units::count_unit;
-use acpi_overview::{Facts, Object, RegionTerms, Table};
+use acpi_overview::{CodeTemplate, Facts, Object, RegionTerms, Table, Value};
 use acpi_survey::Survey;
 use std::alloc::{AllocError, Global};
 
@@ -30,27 +30,35 @@ fn count_units(
     Ok(())
 }
 
-/// The facts of a survey. Only an allocation failure is an error.
-pub fn facts_of(alloc: Global, survey: &Survey) -> Result<Facts<'_>, AllocError> {
+/// The facts of a survey, whose code stores to these targets. By the place of an object its value is given, and by the places of
+/// methods the templates that they return. Only an allocation failure is an error.
+pub fn facts_of<'a>(
+    alloc: Global,
+    survey: &'a Survey,
+    store_targets: &StoreTargets,
+    values: Vec<Value<'a>>,
+    templates: Vec<CodeTemplate<'a>>,
+) -> Result<Facts<'a>, AllocError> {
     let mut objects = objects_of(alloc, survey)?;
-    let store_targets = StoreTargets::new(alloc, survey, &objects)?;
     let mut regions = regions_of(Names {
         alloc,
         survey,
         objects: &objects,
-        store_targets: &store_targets,
+        store_targets,
     })?;
     count_units(survey, &mut regions, &mut objects)?;
     let names = Names {
         alloc,
         survey,
         objects: &objects,
-        store_targets: &store_targets,
+        store_targets,
     };
     set_sources(names, &mut regions)?;
     Ok(Facts {
         tables: tables_of(alloc, survey)?,
         objects,
+        values,
+        templates,
         regions,
         opaque: store_targets.opaque(),
     })

@@ -5,7 +5,8 @@
 //! ```
 //!
 //! ```text
-//! let overview = overview_of(alloc, facts_of(alloc, &survey)?)?;
+//! let facts = facts_of(alloc, &survey, &store_targets, values, templates)?;
+//! let overview = overview_of(alloc, facts)?;
 //! ```
 #![tactic(auto)]
 
@@ -20,4 +21,5 @@ mod units;
 
 pub use facts::facts_of;
 pub use objects::{objects_of, plain_site};
+pub use store_targets::StoreTargets;
 pub use tables::table_of;

@@ -16,18 +16,27 @@ fn read_name(term: &Term) -> Option<&Name> {
     }
 }
 
-fn read_operand(operand: &Operand) -> Option<&Name> {
-    match operand {
-        Operand::Term(term) => read_name(term),
-        _ => None,
+// The first name that a term reads: the term itself, or one of its operands or theirs.
+#[cycle(name_in)]
+fn name_in(term: &Term) -> Option<&Name> {
+    match term {
+        Term::Op(_, operands) => {
+            for operand in operands {
+                if let Some(name) = name_in_operand(operand) {
+                    return Some(name);
+                }
+            }
+            None
+        }
+        _ => read_name(term),
     }
 }
 
-// The name that a term reads: the term itself, or the first operand of an operator that is one.
-fn name_in(term: &Term) -> Option<&Name> {
-    match term {
-        Term::Op(_, operands) => operands.iter().find_map(|o| read_operand(o)),
-        _ => read_name(term),
+#[cycle(name_in)]
+fn name_in_operand(operand: &Operand) -> Option<&Name> {
+    match operand {
+        Operand::Term(term) => name_in(term),
+        _ => None,
     }
 }
 

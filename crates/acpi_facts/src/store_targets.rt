@@ -14,7 +14,7 @@ use std::collections::BTreeSet;
 /// that code may store to the objects of these names (ACPI 6.5, 19.6). A name with another last segment is never stored
 /// to.
 #[derive(Drop)]
-pub(crate) struct StoreTargets {
+pub struct StoreTargets {
     segments: BTreeSet<Seg>,
     has_unread: bool,
     opaque: usize,
@@ -109,7 +109,7 @@ impl StoreTargets {
     }
 
     /// The names in the tables of a survey and in the methods among its objects.
-    pub(crate) fn new(
+    pub fn new(
         alloc: Global,
         survey: &Survey,
         objects: &[Object<'_>],
@@ -129,12 +129,12 @@ impl StoreTargets {
     }
 
     /// How many methods have code that can't be read.
-    pub(crate) fn opaque(&self) -> usize {
+    pub fn opaque(&self) -> usize {
         self.opaque
     }
 
     /// Whether code may store to an object whose path ends with the segment. It may where some code can't be read.
-    pub(crate) fn may_store(&self, segment: Seg) -> bool {
+    pub fn may_store(&self, segment: Seg) -> bool {
         self.has_unread || self.segments.contains(&segment)
     }
 }

@@ -1,8 +1,8 @@
 //! Name segments.
 
-ghost use Rattle.std.specs.Prelude.{◌≡◌, if◌then◌else◌, nat_eq, Some, None, IsTrue};
+ghost use Rattle.std.specs.Prelude.{◌≡◌, if◌then◌else◌, Some, None, IsTrue};
 ghost use Rattle.std.specs.Cmp.{partial_order_from_agreeing_total};
-ghost use Rattle.std.specs.Cmp.Lexicographic.{nat_list_cmp_total, pointwise};
+ghost use Rattle.std.specs.Cmp.Lexicographic.{nat_list_cmp_total};
 ghost use Rattle.std.specs.Cmp.Rules.{comparing};
 ghost use Rattle.std.specs.Ordering.{as_partial_cmp};
 ghost use Rattle.std.proofs.Common.{rules};
@@ -14,7 +14,7 @@ use std::marker::Model;
 
 /// A name segment (ACPI 6.5, 20.2.2 NameSeg): four bytes, ordered by them. The first is A to Z or `_`,
 /// the others are A to Z, 0 to 9 or `_`.
-#[derive(Debug, Clone, Copy)]
+#[derive(Debug, Clone, Copy, PartialEq, Eq)]
 pub struct Seg {
     bytes: [u8; 4],
 }
@@ -33,21 +33,6 @@ impl Model for Seg {
     ghost invariant = { λ s. IsTrue (is_segment s.bytes) };
 
     ghost inverse = { λ b. record { bytes = b } };
-}
-
-// By the order, which takes one comparison, in place of one for each byte.
-impl PartialEq for Seg {
-    ghost eq = { pointwise nat_eq };
-
-    ghost laws = { Prim.search (comparing, rules) };
-
-    fn eq(&self, other: &Seg) -> bool {
-        self.cmp(other).is_eq()
-    }
-}
-
-impl Eq for Seg {
-    ghost laws = { Prim.search (comparing, rules) };
 }
 
 impl PartialOrd for Seg {

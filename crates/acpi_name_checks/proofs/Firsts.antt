@@ -1,5 +1,5 @@
 -- Names that are listed once.
-use Rattle.std.specs.Prelude.{◌||◌}
+use Rattle.std.specs.Prelude.{◌||◌, ◌&&◌}
 use Rattle.std.proofs.Common.{◌≡◌, ◌<◌, ◌+◌, ℕ, length, get_or, ◌∙◌, ◌++◌, Bool, true, false, not, cond, List, [], ◌∷◌, filter, map, take, refl, sym, ap, append-nil}
 use Rattle.std.specs.List.{list_any}
 use Rattle.std.proofs.lemmas.List.{take_more}
@@ -17,7 +17,7 @@ kept p (z ∷ zs) x = by (p z) (kept p zs x)
     by true h = ap (λ l. z ∷ l) h
     by false h = h
 
-map_more : {A B : Type 0} (f : A → B) (xs : List A) (a : A) → map f (xs ++ a ∷ []) ≡ map f xs ++ f a ∷ []
+pub map_more : {A B : Type 0} (f : A → B) (xs : List A) (a : A) → map f (xs ++ a ∷ []) ≡ map f xs ++ f a ∷ []
 map_more f [] a = refl
 map_more f (x ∷ xs) a = ap (λ l. f x ∷ l) (map_more f xs a)
 
@@ -74,3 +74,17 @@ module _ {X : Type 0} (same : X → X → Bool) (h : IsEquivalence same) where
 
 pub same_name_equiv : IsEquivalence has_same_name
 same_name_equiv = on_equiv (λ (x : NoNameParts). x.name) name_eq_equiv
+
+-- ---- where nothing is put behind the others
+
+-- what isn't to be listed
+pub stays_if_not : {X : Type 0} (same : X → X → Bool) (a b : Bool) (xs : List X) (x : X) → a ≡ false → xs ≡ cond (a && b) (with_first same xs x) xs
+stays_if_not same a b xs x e = ap (λ c. cond (c && b) (with_first same xs x) xs) (sym e)
+
+-- what one of them is the same as
+pub stays_if_listed : {X : Type 0} (same : X → X → Bool) (a b : Bool) (xs : List X) (x : X) → list_any (λ y. same y x) xs ≡ true → xs ≡ cond (a && b) (with_first same xs x) xs
+stays_if_listed same a b xs x e = by (a && b)
+  where
+    by : (c : Bool) → xs ≡ cond c (with_first same xs x) xs
+    by true = ap (λ d. cond d xs (xs ++ x ∷ [])) (sym e)
+    by false = refl

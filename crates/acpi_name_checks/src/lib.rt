@@ -11,6 +11,7 @@
 
 mod forms;
 mod guards;
+mod name_set;
 mod no_element;
 mod no_link;
 mod no_name;

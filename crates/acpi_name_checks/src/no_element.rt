@@ -1,10 +1,8 @@
 //! Elements of packages that are declared nowhere.
 
 ghost use Rattle.std.specs.Prelude.{◌≡◌, IfOk, OnOk, map};
-ghost use Rattle.std.specs.List.{list_any};
 ghost use Rattle.std.specs.Option.{option_and_then, option_map};
 ghost use Rattle.acpi_name.specs.Names.{NameParts};
-ghost use Rattle.acpi_name.specs.NameEqual.{name_eq};
 ghost use Rattle.acpi_tree.specs.TermView.{decl_view, term_view};
 ghost use Rattle.acpi_ranges.specs.Lookup.{found_of};
 ghost use Rattle.acpi_survey.specs.SurveyOrder.{IsInOrder};
@@ -12,7 +10,9 @@ ghost use Rattle.acpi_uses.specs.Uses as uses;
 ghost use Rattle.acpi_uses.specs.UseViews.{use_view, uses_view};
 ghost use Rattle.acpi_name_checks.specs.NoElements.{elements_nowhere as elements_of, if_name, is_element, is_lost_element, is_name, lost_elements, name_term};
 ghost use Rattle.acpi_name_checks.specs.steps.Adding.{with_element_if};
+ghost use Rattle.acpi_name_checks.specs.steps.NameSets.{HasNamesOf};
 
+use crate::name_set::NameSet;
 use acpi_conditions::Seen;
 use acpi_name::Name;
 use acpi_outline::{Node, Plain};
@@ -64,35 +64,30 @@ fn is_element(role: Role) -> bool
     matches!(role, Role::Element)
 }
 
-fn is_among(names: &[&Name], name: &Name) -> bool
-    ensures { result ≡ list_any (λ (n : NameParts). name_eq n name.now) (map (λ n. n.now) names.now) }
-{
-    'each: for other in names {
-        if **other == *name {
-            return true;
-        }
-    }
-    false
-}
-
-// Puts the name of an element behind others, if it is declared nowhere and not among them.
+// Puts the name of an element behind others, if it is declared nowhere and not among them. The set has the others.
 fn put_lost<'a>(
     names: &mut Vec<&'a Name>,
+    listed: &mut NameSet<'a>,
     alloc: Global,
     seen: &Seen<'_>,
     used: NameUse<'a>,
 ) -> Result<(), AllocError>
-    ensures { OnOk result (map (λ n. n.now) names.new.items
+    requires { HasNamesOf (λ (n : NameParts). n) listed.old (map (λ n. n.now) names.old.items) }
+    ensures names { OnOk result (map (λ n. n.now) names.new.items
         ≡ with_element_if (is_lost_element seen.now (use_view used.entry))
         (map (λ n. n.now) names.old.items) used.entry.name.now) }
+    ensures listed { OnOk result (HasNamesOf (λ (n : NameParts). n) listed.new
+        (map (λ n. n.now) names.new.items)) }
 {
-    if !is_element(used.role) || is_among(names, used.name) {
+    if !is_element(used.role) || listed.has(used.name) {
         return Ok(());
     }
     let found = seen.find(alloc, used.name.view())?;
-    if found.paths.is_empty() {
-        names.push(used.name)?;
+    if !found.paths.is_empty() {
+        return Ok(());
     }
+    listed.insert(used.name)?;
+    names.push(used.name)?;
     Ok(())
 }
 
@@ -105,9 +100,10 @@ fn lost_of_term<'a>(
         ≡ lost_elements seen.now (uses.uses_of (term_view term.now))) }
 {
     let mut names = Vec::new(alloc);
+    let mut listed = NameSet::new(alloc);
     let uses = uses_of(alloc, term)?;
     'each: for used in &uses {
-        put_lost(&mut names, alloc, seen, *used)?;
+        put_lost(&mut names, &mut listed, alloc, seen, *used)?;
     }
     Ok(names)
 }

@@ -6,9 +6,11 @@ ghost use Rattle.acpi_uses.specs.steps.GuardWalks.{found_by};
 ghost use Rattle.acpi_locals.specs.LocalViews.{name_view, name_views};
 ghost use Rattle.acpi_name_checks.specs.NoNames.{is_lost, is_needed, is_unfound, names_nowhere as names_of, no_name_of};
 ghost use Rattle.acpi_name_checks.specs.Views.{no_name_views};
-ghost use Rattle.acpi_name_checks.specs.steps.Adding.{is_among, with_name_if};
+ghost use Rattle.acpi_name_checks.specs.steps.Adding.{name_of, with_name_if};
+ghost use Rattle.acpi_name_checks.specs.steps.NameSets.{HasNamesOf};
 
 use crate::guards::Guards;
+use crate::name_set::NameSet;
 use acpi_locals::BodyName;
 use acpi_name::Name;
 use acpi_ranges::entry_numbered;
@@ -45,35 +47,29 @@ fn is_unfound(name: &BodyName<'_>) -> bool
     name.link.paths.is_empty() && is_needed(name.role.resolve(false))
 }
 
-fn is_among(found: &[NoName<'_>], name: &Name) -> bool
-    ensures { result ≡ is_among (no_name_views found.now) name.now }
-{
-    'each: for other in found {
-        if *other.name == *name {
-            return true;
-        }
-    }
-    false
-}
-
-// Puts a name behind others, if it is declared nowhere, not guarded and not among them.
+// Puts a name behind others, if it is declared nowhere, not guarded and not among them. The set has the names of the others.
 fn put_lost<'a>(
     found: &mut Vec<NoName<'a>>,
+    listed: &mut NameSet<'a>,
     guards: &mut Guards<'_, '_>,
     name: &BodyName<'a>,
 ) -> Result<(), AllocError>
+    requires { HasNamesOf name_of listed.old (no_name_views found.old.items) }
     ensures steps { guards.new.steps ≡ guards.old.steps }
     ensures scope { guards.new.scope ≡ guards.old.scope }
     ensures found { OnOk result (no_name_views found.new.items ≡ with_name_if
         (is_lost guards.old.scope.now (found_by guards.old.steps.items) (name_view name.now))
         (no_name_views found.old.items) (no_name_of (name_view name.now))) }
+    ensures listed { OnOk result
+        (HasNamesOf name_of listed.new (no_name_views found.new.items)) }
 {
-    if !is_unfound(name) || is_among(found, name.link.name) {
+    if !is_unfound(name) || listed.has(name.link.name) {
         return Ok(());
     }
     if guards.guards(name.line, name.link.name)? {
         return Ok(());
     }
+    listed.insert(name.link.name)?;
     found.push(NoName {
         method: name.method,
         line: name.line,
@@ -98,9 +94,10 @@ pub fn names_nowhere<'a>(
     let Some(entry) = entry_numbered(survey.entries(), number) else {
         return Ok(found);
     };
+    let mut listed = NameSet::new(alloc);
     let mut guards = Guards::new(alloc, &entry.path, body)?;
     'each: for name in names {
-        put_lost(&mut found, &mut guards, name)?;
+        put_lost(&mut found, &mut listed, &mut guards, name)?;
     }
     Ok(found)
 }

@@ -39,7 +39,8 @@ fn declares(statement: &Term) -> bool
 
 // The number of the first statement that declares an object.
 fn first_declaring(statements: &[&Term]) -> Option<usize>
-    ensures is { result ≡ position (λ (t : Bor TermForm). declares (term_view t.now)) statements.now }
+    ensures is { result ≡ position (λ (t : Bor TermForm). declares (term_view t.now))
+        statements.now }
     ensures fits { IfSome result (λ n. n + 1 < 2 ^ 64) }
 {
     statements.iter().position(|s| declares(s))

@@ -1,4 +1,5 @@
--- PCI host bridges, by their _HID and _CID: PNP0A03, and PNP0A08 of PCI Express (ACPI 6.5, 6.1.2 and 6.1.5).
+-- PCI host bridges, by their _HID and _CID: PNP0A03, PNP0A08 of PCI Express, and ACPI0016 of CXL (ACPI 6.5, 6.1.2 and
+-- 6.1.5).
 use Rattle.std.specs.Prelude.{ℕ, Bool, false, ◌==◌, ◌||◌, nat_eq, List, codes, Option, Some, None}
 use Rattle.std.specs.List.{list_any}
 use Rattle.std.specs.Cmp.Lexicographic.{pointwise}
@@ -18,6 +19,7 @@ is_bridge_number None = false
 abbrev pub is_bridge_text : List ℕ → Bool
 is_bridge_text text =
     pointwise nat_eq text (codes "PNP0A03") || pointwise nat_eq text (codes "PNP0A08")
+    || pointwise nat_eq text (codes "ACPI0016")
 
 -- as an element of a package of ids
 abbrev pub is_bridge_term : Term → Bool

@@ -37,11 +37,6 @@ region_range (Some from) (Some count) = Some (from, min (from + count) (2 ^ 64 -
 region_range (Some _) None = None
 region_range None _ = None
 
--- whether a region of that many bytes ends before a bit, counted from its first
-abbrev pub ends_before : Option ℕ → ℕ → Bool
-ends_before (Some count) bit = nat_lt (min (count * 8) (2 ^ 64 - 1)) bit
-ends_before None _ = false
-
 -- the kind of addresses in an address space that devices claim: 0 SystemMemory, 1 SystemIO (table 5.184)
 abbrev pub claimed_kind : ℕ → Option AddressKind
 claimed_kind space = if nat_eq space 0 then Some kinds.Memory else

@@ -30,6 +30,16 @@ pub struct DeviceValues<'a> {
     pub crs: Value<'a>,
     /// `_PRW`, by which event it wakes the machine.
     pub prw: Value<'a>,
+    /// `_PRS`, the resources between which it has a choice.
+    pub prs: Value<'a>,
+    /// `_PRT`, which interrupts the pins of the devices on its bus have.
+    pub prt: Value<'a>,
+    /// `_DDN`, what its maker calls it, as DOS does.
+    pub ddn: Value<'a>,
+    /// `_STR`, what its maker calls it.
+    pub str: Value<'a>,
+    /// `_GPE`, the event of an embedded controller.
+    pub gpe: Value<'a>,
 }
 
 /// How many objects stand directly below another.
@@ -39,6 +49,12 @@ pub struct MemberCounts {
     pub methods: usize,
     /// How many field units.
     pub units: usize,
+    /// How many operation regions.
+    pub regions: usize,
+    /// How many of these lie in PCI configuration space.
+    pub config_regions: usize,
+    /// How many names that have data.
+    pub names: usize,
 }
 
 /// An object below which others stand.
@@ -60,6 +76,8 @@ pub struct Container<'a> {
     pub counts: MemberCounts,
     /// Where it stands on its parent's bus.
     pub address: Address,
+    /// Whether it is a function of a PCI bus and for sure the bridge to another one.
+    pub is_pci_bridge: bool,
 }
 
 /// The containers in the order of their paths, so that each stands behind those around, and for each object the
@@ -81,6 +99,19 @@ const NOTHING: DeviceValues<'static> = DeviceValues {
     sta: Value::Missing,
     crs: Value::Missing,
     prw: Value::Missing,
+    prs: Value::Missing,
+    prt: Value::Missing,
+    ddn: Value::Missing,
+    str: Value::Missing,
+    gpe: Value::Missing,
+};
+
+const NO_MEMBERS: MemberCounts = MemberCounts {
+    methods: 0,
+    units: 0,
+    regions: 0,
+    config_regions: 0,
+    names: 0,
 };
 
 /// Whether others may stand below what a term declares.
@@ -142,6 +173,11 @@ impl<'a> DeviceValues<'a> {
             b"_STA" => set(&mut self.sta, value),
             b"_CRS" => set(&mut self.crs, value),
             b"_PRW" => set(&mut self.prw, value),
+            b"_PRS" => set(&mut self.prs, value),
+            b"_PRT" => set(&mut self.prt, value),
+            b"_DDN" => set(&mut self.ddn, value),
+            b"_STR" => set(&mut self.str, value),
+            b"_GPE" => set(&mut self.gpe, value),
             _ => {}
         }
     }
@@ -152,21 +188,28 @@ impl MemberCounts {
         match kind {
             ObjectKind::Method(_) => self.methods = self.methods.saturating_add(1),
             ObjectKind::Field { .. } => self.units = self.units.saturating_add(1),
+            ObjectKind::Name(_) => self.names = self.names.saturating_add(1),
+            ObjectKind::Region { space, .. } => {
+                self.regions = self.regions.saturating_add(1);
+                if space == 2 {
+                    self.config_regions = self.config_regions.saturating_add(1);
+                }
+            }
             _ => {}
         }
     }
 }
 
 impl<'a> Container<'a> {
-    // Adds an object that stands below it.
-    fn add(&mut self, object: &Object<'a>) {
+    // Adds an object that stands below it, of which this value is known.
+    fn add(&mut self, object: &Object<'a>, value: Value<'a>) {
         if !is_directly_in(object.path, self.object.path) {
             return;
         }
         let value = if object.has_own_condition {
             Value::Unknown
         } else {
-            Value::of_object(object.kind, object.code)
+            value
         };
         self.values.add(&last_segment(object.path), value);
         self.counts.add(object.kind);
@@ -209,20 +252,18 @@ impl<'a> Building<'a> {
             count: 1,
             place,
             values: NOTHING,
-            counts: MemberCounts {
-                methods: 0,
-                units: 0,
-            },
+            counts: NO_MEMBERS,
             address: Address::Missing,
+            is_pci_bridge: false,
         })?;
         self.open.push(number)?;
         Ok(())
     }
 
     // Adds an object to the container of that number, below which it stands.
-    fn add_to(&mut self, number: usize, object: &Object<'a>) {
+    fn add_to(&mut self, number: usize, object: &Object<'a>, value: Value<'a>) {
         if let Some(container) = self.containers.get_mut(number) {
-            container.add(object);
+            container.add(object, value);
         }
     }
 
@@ -240,12 +281,17 @@ impl<'a> Building<'a> {
         }
     }
 
-    // Comes to the next object; the number of the container around it.
-    fn next(&mut self, object: &Object<'a>, place: usize) -> Result<Option<usize>, AllocError> {
+    // Comes to the next object, of which this value is known; the number of the container around it.
+    fn next(
+        &mut self,
+        object: &Object<'a>,
+        value: Value<'a>,
+        place: usize,
+    ) -> Result<Option<usize>, AllocError> {
         let around = self.leave_to(object.path);
         if !is_container(object.kind) {
             if let Some(number) = around {
-                self.add_to(number, object);
+                self.add_to(number, object, value);
             }
             return Ok(around);
         }
@@ -260,8 +306,12 @@ impl<'a> Building<'a> {
 }
 
 impl<'a> Tree<'a> {
-    /// The tree of the objects, which stand in the order of their paths.
-    pub fn new(alloc: Global, objects: &[Object<'a>]) -> Result<Tree<'a>, AllocError>
+    /// The tree of the objects, which stand in the order of their paths, of which these values are known.
+    pub fn new(
+        alloc: Global,
+        objects: &[Object<'a>],
+        values: &[Value<'a>],
+    ) -> Result<Tree<'a>, AllocError>
         ensures { IfOk result (λ t. length t.around.items ≡ length objects.now) }
     {
         let mut building = Building {
@@ -270,11 +320,12 @@ impl<'a> Tree<'a> {
         };
         let mut around = Vec::new(alloc);
         'each: for place in 0..objects.len() {
-            let container = building.next(&objects[place], place)?;
+            let value = values.get(place).copied().unwrap_or(Value::Unknown);
+            let container = building.next(&objects[place], value, place)?;
             around.push(container)?;
         }
         let mut containers = building.containers;
-        set_addresses(&mut containers);
+        set_addresses(alloc, &mut containers)?;
         Ok(Tree { containers, around })
     }
 

@@ -1,6 +1,8 @@
 //! What a survey of tables gives, of which an overview is made.
 
 use crate::objects::Object;
+use crate::value::Value;
+use acpi_name::Name;
 use acpi_tree::Term;
 
 /// How much of a table is read (ACPI 6.5, 5.2.6).
@@ -55,6 +57,28 @@ pub struct RegionTerms<'a> {
     pub units: usize,
 }
 
+/// Bytes of a buffer that code writes before a method returns it: from the first to that behind the last.
+#[derive(Debug, Clone, Copy, PartialEq, Eq)]
+pub struct WrittenBytes {
+    /// The first byte.
+    pub from: usize,
+    /// The byte behind the last.
+    pub to: usize,
+}
+
+/// The resource template that a method returns, some bytes of which its code writes before.
+#[derive(Debug, Drop)]
+pub struct CodeTemplate<'a> {
+    /// The place of the method among the objects.
+    pub place: usize,
+    /// The name of the buffer.
+    pub name: &'a Name,
+    /// The bytes with which the buffer is declared.
+    pub bytes: &'a [u8],
+    /// Which of them code writes.
+    pub written: Vec<WrittenBytes>,
+}
+
 /// What a survey of tables gives.
 #[derive(Drop)]
 pub struct Facts<'a> {
@@ -62,6 +86,10 @@ pub struct Facts<'a> {
     pub tables: Vec<Table<'a>>,
     /// The objects in the order of their paths, those of one path in the order of their places.
     pub objects: Vec<Object<'a>>,
+    /// By the place of an object, what is known of its value.
+    pub values: Vec<Value<'a>>,
+    /// The templates that methods return and write before, by the places of the methods.
+    pub templates: Vec<CodeTemplate<'a>>,
     /// The operation regions in the same order; the place of one of them is its number.
     pub regions: Vec<RegionTerms<'a>>,
     /// How many methods have code that can't be read.

@@ -3,7 +3,7 @@
 //!
 //! ```text
 //! Facts ──► objects by path ──► devices and what is known of them ──► claims of addresses
-//!                           ──► regions and their field units     ──► what looks wrong
+//!                           ──► regions and their field units
 //! ```
 //!
 //! ```text
@@ -20,7 +20,6 @@ mod containers;
 mod facts;
 mod headers;
 mod lines;
-mod lints;
 mod machine;
 mod objects;
 mod ospm_methods;
@@ -34,13 +33,14 @@ pub use containers::{
     Container, DeviceValues, MemberCounts, Tree, is_container, is_directly_in, is_within,
     last_segment,
 };
-pub use facts::{BoundTerm, Facts, RegionTerms, Table, TableState};
+pub use facts::{BoundTerm, CodeTemplate, Facts, RegionTerms, Table, TableState, WrittenBytes};
 pub use headers::{TableHeader, header_of};
 pub use lines::{ConditionLine, FoundLine, Lines};
-pub use lints::{Lint, LintReason};
 pub use machine::{Overview, Totals, overview_of};
 pub use objects::{Object, Site, objects_at};
 pub use ospm_methods::{OSPM_KINDS, OspmKind, OspmMethod, ospm_kind, ospm_methods_of};
 pub use regions::{Bound, Certainty, Region, UnitSource, kind_of};
-pub use resources::{AddressKind, claimed_range, resources_of};
-pub use value::{Value, integer_value};
+pub use resources::{
+    AddressKind, Resource, ResourceLists, ResourceSource, Resources, claimed_range,
+};
+pub use value::{Value, declared_values, integer_value};

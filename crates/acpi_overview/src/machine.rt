@@ -3,13 +3,12 @@
 use crate::claims::Claims;
 use crate::containers::Tree;
 use crate::facts::{Facts, Table};
-use crate::lints::{Lint, lints_of};
 use crate::objects::Object;
 use crate::ospm_methods::{OspmMethod, ospm_methods_of};
 use crate::regions::{Region, regions_of};
-use crate::resources::resources_of;
+use crate::resources::{ResourceLists, constant_templates, resources_of};
+use crate::value::Value;
 use acpi_kinds::ObjectKind;
-use acpi_resources::Template;
 use std::alloc::{AllocError, Global};
 
 /// How many objects of some kinds there are, and bytes of code.
@@ -42,16 +41,16 @@ pub struct Overview<'a> {
     pub objects: Vec<Object<'a>>,
     /// The devices and other objects below which others stand.
     pub tree: Tree<'a>,
-    /// The descriptors of each container's `_CRS`, where it is a constant buffer.
-    pub resources: Vec<Option<Template<'a>>>,
+    /// By the place of an object, what is known of its value.
+    pub values: Vec<Value<'a>>,
+    /// The resources of the containers.
+    pub resources: ResourceLists<'a>,
     /// The addresses that devices claim.
     pub claims: Claims,
     /// The operation regions in the order of their paths.
     pub regions: Vec<Region<'a>>,
     /// The methods that an operating system runs by itself.
     pub ospm_methods: Vec<OspmMethod<'a>>,
-    /// What looks wrong.
-    pub lints: Vec<Lint<'a>>,
     /// How many there are.
     pub totals: Totals,
 }
@@ -79,19 +78,19 @@ impl Totals {
 }
 
 // What there is of the objects of tables, with how many of them stand in a container that has a condition too.
-fn totals_of(facts: &Facts<'_>, tree: &Tree<'_>) -> Totals {
+fn totals_of(objects: &[Object<'_>], tree: &Tree<'_>, opaque: usize) -> Totals {
     let mut totals = Totals {
         devices: 0,
         units: 0,
         methods: 0,
         code: 0,
-        opaque: facts.opaque,
+        opaque,
         names: 0,
         conditional: 0,
         inside: 0,
     };
-    for place in 0..facts.objects.len() {
-        let object = &facts.objects[place];
+    for place in 0..objects.len() {
+        let object = &objects[place];
         if object.site.is_some() {
             totals.add(object);
         }
@@ -134,29 +133,23 @@ impl<'a> Overview<'a> {
 
 /// The overview of the tables of which these are the facts. Only an allocation failure is an error.
 pub fn overview_of<'a>(alloc: Global, facts: Facts<'a>) -> Result<Overview<'a>, AllocError> {
-    let tree = Tree::new(alloc, &facts.objects)?;
+    let tree = Tree::new(alloc, &facts.objects, &facts.values)?;
     let regions = regions_of(alloc, &facts.regions, &tree)?;
-    let resources = resources_of(alloc, &tree.containers)?;
-    let claims = Claims::new(alloc, &tree.containers, &resources)?;
-    let lints = lints_of(
-        alloc,
-        &facts.objects,
-        &tree.containers,
-        &resources,
-        &regions,
-        &claims,
-    )?;
+    let templates = facts.templates;
+    let resources = resources_of(alloc, &facts.objects, &tree, templates)?;
+    let constant = constant_templates(alloc, &resources.current)?;
+    let claims = Claims::new(alloc, &tree.containers, &constant)?;
     let ospm_methods = ospm_methods_of(alloc, &facts.objects)?;
-    let totals = totals_of(&facts, &tree);
+    let totals = totals_of(&facts.objects, &tree, facts.opaque);
     Ok(Overview {
         tables: facts.tables,
         objects: facts.objects,
+        values: facts.values,
         tree,
         resources,
         claims,
         regions,
         ospm_methods,
-        lints,
         totals,
     })
 }

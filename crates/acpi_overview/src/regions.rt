@@ -1,7 +1,7 @@
 //! Operation regions.
 
 ghost use Rattle.std.specs.Prelude.{◌≡◌, ◌≤◌, IfSome};
-ghost use Rattle.acpi_overview.specs.Regions.{bound_number, claimed_kind, ends_before, region_mark, region_range, IsBoundOf};
+ghost use Rattle.acpi_overview.specs.Regions.{bound_number, claimed_kind, region_mark, region_range, IsBoundOf};
 
 use crate::addresses::Address;
 use crate::containers::Tree;
@@ -119,16 +119,6 @@ impl<'a> Region<'a> {
     {
         let from = self.offset.number()?;
         Some((from, from.saturating_add(self.length.number()?)))
-    }
-
-    /// Whether it is sure to end before that bit, counted from its first.
-    pub(crate) fn ends_before(&self, bit: u64) -> bool
-        ensures { result ≡ ends_before (bound_number self.now.length) bit }
-    {
-        match self.length.number() {
-            Some(length) => length.saturating_mul(8) < bit,
-            None => false,
-        }
     }
 }
 

@@ -5,8 +5,10 @@ ghost use Rattle.acpi_overview.specs.Numbers.{integer_value, is_missing, term_nu
 ghost use Rattle.acpi_kinds.specs.declared.kind.ObjectKind.TheVariants as objects;
 ghost use Rattle.acpi_overview.specs.declared.value.Value.TheVariants as known;
 
+use crate::objects::Object;
 use acpi_kinds::ObjectKind;
 use acpi_tree::{Int, Term};
+use std::alloc::{AllocError, Global};
 
 /// What is known of an object's value without running code (ACPI 6.5, 19.6).
 #[derive(Debug, Clone, Copy)]
@@ -71,6 +73,11 @@ impl<'a> Value<'a> {
         }
     }
 
+    /// Whether it is known: a constant.
+    pub fn is_constant(&self) -> bool {
+        !matches!(self, Value::Missing | Value::Method(_) | Value::Unknown)
+    }
+
     /// Whether nothing declares it.
     pub fn is_missing(&self) -> bool
         ensures { result ≡ is_missing self.now }
@@ -87,4 +94,16 @@ impl<'a> Value<'a> {
             _ => None,
         }
     }
+}
+
+/// What the terms of objects say of their values, where no body is read.
+pub fn declared_values<'a>(
+    alloc: Global,
+    objects: &[Object<'a>],
+) -> Result<Vec<Value<'a>>, AllocError> {
+    let mut values = Vec::new(alloc);
+    for object in objects {
+        values.push(Value::of_object(object.kind, object.code))?;
+    }
+    Ok(values)
 }

@@ -1,10 +1,9 @@
 //! Texts of resource descriptors (ACPI 6.5, 6.4).
 
-use crate::words::{put_code_size, put_hex};
-use acpi_overview::Value;
+use crate::words::put_hex;
 use acpi_resources::{
     AddressSpace, Descriptor, ExtendedAddressSpace, ExtendedInterrupt, FixedDma, FixedMemory32,
-    GenericRegister, Gpio, Io, Irq, Memory24, Memory32, SerialBus, Template, TemplateFault,
+    GenericRegister, Gpio, Io, Irq, Memory24, Memory32, SerialBus,
 };
 use acpi_text::put_decimal;
 use text_buffer::Text;
@@ -174,41 +173,5 @@ pub fn put_descriptor(text: &mut Text, descriptor: &Descriptor<'_>) {
         Descriptor::Gpio(gpio) => put_gpio(text, gpio),
         Descriptor::SerialBus(bus) => put_bus(text, bus),
         Descriptor::Other(item) => put_tag(text, item.tag, item.body.len()),
-    }
-}
-
-/// The words for where a template stops before its end.
-pub fn fault_words(fault: TemplateFault) -> &'static str {
-    match fault {
-        TemplateFault::NoEndTag => "ends without an end tag",
-        TemplateFault::Cut => "ends within a descriptor",
-        TemplateFault::BehindEndTag => "has bytes behind its end tag",
-    }
-}
-
-// Puts the descriptors of a template with commas between them.
-fn put_template(text: &mut Text, template: &Template<'_>) {
-    let mut separator = "";
-    for descriptor in &template.descriptors {
-        if let Descriptor::EndTag(_) = descriptor {
-            continue;
-        }
-        text.put(separator);
-        separator = ", ";
-        put_descriptor(text, descriptor);
-    }
-}
-
-/// Puts the resources of a device: the descriptors of a constant `_CRS`, or the size of the method; nothing where it has
-/// none.
-pub fn put_resources(text: &mut Text, crs: &Value<'_>, template: &Option<Template<'_>>) {
-    match (template, crs) {
-        (Some(template), _) => put_template(text, template),
-        (None, Value::Missing) => {}
-        (None, Value::Method(code)) => {
-            text.put("method ");
-            put_code_size(text, *code)
-        }
-        (None, _) => text.put("?"),
     }
 }

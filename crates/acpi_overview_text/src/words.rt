@@ -81,19 +81,23 @@ pub fn put_counted(text: &mut Text, n: usize, thing: &str) {
     }
 }
 
+// The units of numbers of bytes.
+const UNITS: [(u64, &str); 4] = [
+    (1 << 40, " T"),
+    (1 << 30, " G"),
+    (1 << 20, " M"),
+    (1 << 10, " K"),
+];
+
 /// Puts a number of bytes: `16 K`, `64 M`, `256`.
 pub fn put_size(text: &mut Text, n: u64) {
-    let (number, unit) = if n == 0 || n % 1024 != 0 {
-        (n, "")
-    } else if n % (1024 * 1024 * 1024) == 0 {
-        (n / (1024 * 1024 * 1024), " G")
-    } else if n % (1024 * 1024) == 0 {
-        (n / (1024 * 1024), " M")
-    } else {
-        (n / 1024, " K")
-    };
-    put_decimal(text, number);
-    text.put(unit)
+    for (unit, word) in &UNITS {
+        if n != 0 && n % *unit == 0 {
+            put_count(text, n / *unit);
+            return text.put(word);
+        }
+    }
+    put_count(text, n)
 }
 
 /// Puts how many bytes the code of a method has: `14 B`.
@@ -126,24 +130,11 @@ fn put_short_segments(text: &mut Text, segments: &[Seg]) {
     }
 }
 
-/// Puts a path with the segments as ASL has them: `\_SB.PCI0.EC`.
-pub fn put_short_path(text: &mut Text, path: &Path) {
-    put_short_segments(text, path.segs())
-}
-
 /// Puts the path around a path: `\_SB.PCI0` for `\_SB.PCI0.EC`, and a backslash for the root.
 pub fn put_path_around(text: &mut Text, path: &Path) {
     match path.segs() {
         [] => put_short_segments(text, &[]),
         [around @ .., _] => put_short_segments(text, around),
-    }
-}
-
-/// Puts the last segment of a path as ASL has it; a backslash for the root.
-pub fn put_last(text: &mut Text, path: &Path) {
-    match path.segs().last() {
-        Some(segment) => put_short_segment(text, *segment),
-        None => text.put("\\"),
     }
 }
 

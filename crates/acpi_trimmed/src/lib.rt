@@ -1,7 +1,7 @@
 //! Paths without the `_` that fill their segments up, as source code has them (ACPI 6.5, 19.2.2 and 20.2.2): `\_SB.PCI0.EC`.
 #![tactic(auto)]
 
-use acpi_name::{Path, Seg};
+use acpi_name::{NameRef, Path, Seg};
 use text_buffer::Text;
 
 /// Puts a segment without the `_` at its end; one of `_` alone as it is.
@@ -24,5 +24,24 @@ pub fn put_trimmed_path(text: &mut Text, path: &Path) {
         text.put(separator);
         separator = ".";
         put_trimmed_segment(text, *segment);
+    }
+}
+
+/// Puts a name as it is spelled, its segments without the `_` at their ends; the name without anything is `.`.
+pub fn put_trimmed_name(text: &mut Text, name: NameRef<'_>) {
+    if !name.rooted() && name.parents() == 0 && name.is_empty() {
+        return text.put(".");
+    }
+    if name.rooted() {
+        text.put("\\");
+    }
+    for _ in 0..name.parents() {
+        text.put("^");
+    }
+    let mut separator = "";
+    for i in 0..name.len() {
+        text.put(separator);
+        separator = ".";
+        put_trimmed_segment(text, name.seg(i));
     }
 }

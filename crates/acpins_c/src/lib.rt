@@ -1,10 +1,11 @@
-//! What C and Rust call (docs/LIBRARY.md): each export calls a function of `acpins_records`, and states its clauses again.
+//! What C and Rust call (docs/LIBRARY.md): each export calls a function of `acpins_records` or of `acpins_survey_calls`, and states its
+//! clauses again.
 //!
 //! An export takes the host's memory by the three functions of `bindings/c/acpins_heap.h`, and gives all of it back
 //! before it returns. A slice is a pointer and a length in C; where the length is 0 the pointer may be NULL.
 #![tactic(auto)]
 
-ghost use Rattle.std.specs.Prelude.{◌≡◌, ◌≢◌, ◌↔◌, ◌⊎◌, ◌<◌, ◌≤◌, [], take};
+ghost use Rattle.std.specs.Prelude.{◌≡◌, ◌≢◌, ◌↔◌, ◌⊎◌, ◌<◌, ◌≤◌, [], take, None};
 ghost use Rattle.acpi_name.specs.Text.{IsPathText};
 ghost use Rattle.acpins_records.specs.Bodies.{HasNoMethod, IsBodyWritten, NeedsText};
 ghost use Rattle.acpins_records.specs.Checks.{IsVerdictWritten, NeedsAnswerRoom};
@@ -12,20 +13,29 @@ ghost use Rattle.acpins_records.specs.Orders.{AreTablesInAnyOrder, IsBodyInAnyOr
 ghost use Rattle.acpins_records.specs.Outcomes.{no_outcome};
 ghost use Rattle.acpins_records.specs.Rewrites.{AreTablesWritten, NeedTablesRoom};
 ghost use Rattle.acpins_records.specs.Written.{IsRefusal, IsWritten, NeedsRoom, SamePlaces, StayButText, bytes_of, contents_of};
+ghost use Rattle.acpins_lent.specs.Lent.{no_survey_outcome};
+ghost use Rattle.acpins_survey_calls.specs.Asked.{command_of};
+ghost use Rattle.acpins_survey_calls.specs.FileTables.{AreFileTablesWritten, HasNotForm, NeedFileTablesRoom};
+ghost use Rattle.acpins_survey_calls.specs.Texts.{HasNothingThere, IsTextWritten, NeedsTextRoom};
 
-use acpins_records::{
-    Arrays, BAD_PATH, BodyRecord, CALL, LentTable, NO_METHOD, NO_ROOM, OK, Outcome, REFUSED,
-    SatisfiedRecord, VerdictRecord, write_body, write_load, write_tables, write_verdict,
+use acpins_lent::{
+    BAD_PATH, CALL, LentTable, NO_METHOD, NO_OBJECT, NO_ROOM, OK, REFUSED, SurveyOutcome,
 };
+use acpins_records::{
+    Arrays, BodyRecord, Outcome, SatisfiedRecord, VerdictRecord, write_body, write_load,
+    write_tables, write_verdict,
+};
+use acpins_survey_calls::{write_file_tables, write_survey_text};
+use acpins_survey_records::{SurveyArrays, write_survey};
 use std::alloc::Global;
 
-/// The form of the records that the library writes. It grows by one where their fields change; records grow at their
-/// end.
+/// The form of the records that the library writes, and which calls there are. It grows by one where there are more calls or fields;
+/// records grow at their end.
 #[unsafe(no_mangle)]
 pub extern "C" fn acpins_abi() -> u32
-    ensures { result ≡ 1 }
+    ensures { result ≡ 2 }
 {
-    1
+    2
 }
 
 /// Loads a DSDT and SSDTs, in the order of their load, and writes what they load to into the caller's arrays.
@@ -155,4 +165,71 @@ pub extern "C" fn acpins_rewrite(
     ensures statuses { result ≤ 4 }
 {
     write_tables(alloc, tables, depth, bytes, ends, outcome)
+}
+
+/// Writes the tables in the bytes of a file, one behind the other, and where each ends, in bytes.
+#[unsafe(no_mangle)]
+pub extern "C" fn acpins_tables(
+    alloc: Global,
+    file: &[u8],
+    form: u32,
+    bytes: &mut [u8],
+    ends: &mut [u64],
+    outcome: &mut SurveyOutcome,
+) -> u32
+    ensures ok { result ≡ OK → AreFileTablesWritten form
+        file.now bytes.old bytes.new ends.old ends.new outcome.new }
+    ensures room { result ≡ NO_ROOM → NeedFileTablesRoom form
+        file.now bytes.old ends.old outcome.new }
+    ensures call { result ≡ CALL → HasNotForm form file.now }
+    ensures stay { result ≢ OK → (bytes.new ≡ bytes.old) × (ends.new ≡ ends.old) }
+    // Of any other status the outcome is 0.
+    ensures silent { result ≢ OK → result ≢ NO_ROOM → outcome.new ≡ no_survey_outcome }
+    ensures statuses { result ≤ 4 }
+{
+    write_file_tables(alloc, file, form, bytes, ends, outcome)
+}
+
+/// Writes what the program `acpins-survey` prints of tables, without the names of files: which text it is says `what`.
+#[unsafe(no_mangle)]
+pub extern "C" fn acpins_survey_text(
+    alloc: Global,
+    tables: &[LentTable<'_>],
+    depth: u32,
+    what: u32,
+    path: &[u8],
+    text: &mut [u8],
+    outcome: &mut SurveyOutcome,
+) -> u32
+    // The array begins with the text that is asked for.
+    ensures ok { result ≡ OK → IsTextWritten depth
+        (bytes_of tables.now) what path.now text.old text.new outcome.new }
+    // It has less room than that needs: the outcome has how much it is.
+    ensures room { result ≡ NO_ROOM → NeedsTextRoom depth
+        (bytes_of tables.now) what path.now text.old outcome.new }
+    ensures none { result ≡ NO_OBJECT → HasNothingThere depth (bytes_of tables.now) what path.now }
+    ensures bad { result ≡ BAD_PATH → IsPathText path.now → ⊥ }
+    ensures call { (result ≡ CALL) ↔ ((tables.now ≡ []) ⊎ ((depth < 1) ⊎ ((4096 < depth)
+        ⊎ (command_of what path.now ≡ None)))) }
+    ensures stay { result ≢ OK → text.new ≡ text.old }
+    // Of any other status the outcome is 0.
+    ensures silent { result ≢ OK → result ≢ NO_ROOM → outcome.new ≡ no_survey_outcome }
+    ensures statuses { result ≤ 7 }
+{
+    write_survey_text(alloc, tables, depth, what, path, text, outcome)
+}
+
+/// Surveys tables, and writes their entries, conditions, problems and notes into the caller's arrays.
+#[unsafe(no_mangle)]
+pub extern "C" fn acpins_survey(
+    alloc: Global,
+    tables: &[LentTable<'_>],
+    depth: u32,
+    arrays: &mut SurveyArrays<'_>,
+    outcome: &mut SurveyOutcome,
+) -> u32
+    ensures call { (result ≡ CALL) ↔ ((tables.now ≡ []) ⊎ ((depth < 1) ⊎ (4096 < depth))) }
+    ensures statuses { result ≤ 4 }
+{
+    write_survey(alloc, tables, depth, arrays, outcome)
 }

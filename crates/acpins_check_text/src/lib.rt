@@ -7,9 +7,10 @@
 //! ```
 #![tactic(auto)]
 
-mod folds;
+mod line_folds;
 mod order;
 mod text;
 
+pub use line_folds::folds;
 pub use order::in_order;
 pub use text::{CheckOptions, CheckText, check_text};

@@ -1,6 +1,6 @@
 //! The lines of findings, and their counts.
 
-use crate::folds::folds;
+use crate::line_folds::folds;
 use crate::order::in_order;
 use acpi_check_machine::{CheckId, Finding, Level};
 use acpi_text::put_decimal;

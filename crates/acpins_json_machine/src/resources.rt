@@ -241,12 +241,22 @@ fn put_template(text: &mut Text, template: &[u8]) {
     text.put("]")
 }
 
-/// Puts the member of the resources of a device (6.2.2), behind others: null where only running code tells them.
-pub(crate) fn put_resources_member(text: &mut Text, crs: &Value<'_>) {
-    put_member(text, ",", "resources");
-    match crs {
+// Puts a member of the resources that a value says: null where only running code tells them.
+fn put_list_member(text: &mut Text, name: &str, value: &Value<'_>) {
+    put_member(text, ",", name);
+    match value {
         Value::Missing => text.put("[]"),
         Value::Buffer(template) => put_template(text, template),
         _ => text.put("null"),
     }
+}
+
+/// Puts the member of the resources of a device (6.2.2), behind others.
+pub(crate) fn put_resources_member(text: &mut Text, crs: &Value<'_>) {
+    put_list_member(text, "resources", crs)
+}
+
+/// Puts the member of the resources between which a device has a choice (6.2.12), behind others.
+pub(crate) fn put_choices_member(text: &mut Text, prs: &Value<'_>) {
+    put_list_member(text, "choices", prs)
 }

@@ -1,4 +1,4 @@
--- What the page is made of (HTML, 13.1.2; SVG 2): tags of some elements with some attributes, and text. What comes from
+-- What the page is made of (HTML, 13.1.2): tags of some elements with some attributes, and text. What comes from
 -- tables and from names of files stands in it as text or as the value of an attribute, and so only escaped.
 use Rattle.std.specs.Prelude.{◌≡◌, ◌++◌, ◌∷◌, [], ℕ, List, codes}
 use Rattle.std.specs.List.{flat_map}
@@ -11,27 +11,31 @@ use Rattle.acpins_page.specs.declared.markup.AttributeName.TheVariants as names
 -- the name of an element; none of these runs or fetches something
 abbrev pub element_name : Element → List ℕ
 element_name elements.A = codes "a"
-element_name elements.B = codes "b"
 element_name elements.Body = codes "body"
+element_name elements.Code = codes "code"
+element_name elements.Dd = codes "dd"
 element_name elements.Details = codes "details"
 element_name elements.Div = codes "div"
-element_name elements.Figcaption = codes "figcaption"
-element_name elements.Figure = codes "figure"
-element_name elements.G = codes "g"
+element_name elements.Dl = codes "dl"
+element_name elements.Dt = codes "dt"
+element_name elements.Footer = codes "footer"
 element_name elements.H1 = codes "h1"
 element_name elements.H2 = codes "h2"
+element_name elements.Header = codes "header"
 element_name elements.Html = codes "html"
 element_name elements.Li = codes "li"
-element_name elements.Line = codes "line"
+element_name elements.Main = codes "main"
+element_name elements.Nav = codes "nav"
+element_name elements.Ol = codes "ol"
 element_name elements.P = codes "p"
-element_name elements.Rect = codes "rect"
+element_name elements.Pre = codes "pre"
+element_name elements.Section = codes "section"
 element_name elements.Small = codes "small"
 element_name elements.Span = codes "span"
 element_name elements.Summary = codes "summary"
-element_name elements.Svg = codes "svg"
 element_name elements.Table = codes "table"
 element_name elements.Td = codes "td"
-element_name elements.Text = codes "text"
+element_name elements.Th = codes "th"
 element_name elements.Title = codes "title"
 element_name elements.Tr = codes "tr"
 element_name elements.Ul = codes "ul"
@@ -40,21 +44,9 @@ element_name elements.Ul = codes "ul"
 -- `#`
 abbrev pub attribute_start : AttributeName → List ℕ
 attribute_start names.Class = codes " class=\""
-attribute_start names.Height = codes " height=\""
 attribute_start names.Href = codes " href=\"#"
 attribute_start names.Id = codes " id=\""
 attribute_start names.Open = codes " open=\""
-attribute_start names.Role = codes " role=\""
-attribute_start names.Rx = codes " rx=\""
-attribute_start names.Title = codes " title=\""
-attribute_start names.ViewBox = codes " viewBox=\""
-attribute_start names.Width = codes " width=\""
-attribute_start names.X = codes " x=\""
-attribute_start names.X1 = codes " x1=\""
-attribute_start names.X2 = codes " x2=\""
-attribute_start names.Y = codes " y=\""
-attribute_start names.Y1 = codes " y1=\""
-attribute_start names.Y2 = codes " y2=\""
 
 -- an attribute with its value: what stands before the value, the value escaped, and a quote
 abbrev pub attribute_text : AttributeName × List ℕ → List ℕ

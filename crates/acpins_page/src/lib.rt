@@ -2,20 +2,25 @@
 //! declare, and where they touch it, as far as that is known without running any of their code (ACPI 6.5).
 //!
 //! ```text
-//! let page = html(alloc, &overview, &lines, &map, &files)?;
+//! let page = html(&facts, &found, &map, &files)?;
 //! ```
 //!
 //! Nothing here opens a file or reads an argument. Only an allocation failure is an error.
 #![tactic(auto)]
 
-mod address_maps;
+mod address_map;
+mod anchors;
+mod code;
 mod devices;
 mod markup;
+mod methods;
 mod page;
 mod parts;
 mod regions;
+mod rows;
 mod style;
 mod table_bytes;
+mod users;
 mod writer;
 
 pub use page::html;

@@ -1,40 +1,49 @@
 //! What a page looks like.
 
-/// What stands before the body of a page: its language, its width on a telephone, its title, and how it looks in light,
-/// in the dark and on paper.
+/// What stands before the title of a page: its language, its width on a telephone, and how it looks in light, in the dark and on
+/// paper.
 pub const HEAD: &str = "<!doctype html>
-<html lang=\"en\"><head><meta charset=\"utf-8\">
+<html lang=\"en\"><meta charset=\"utf-8\">
 <meta name=\"viewport\" content=\"width=device-width, initial-scale=1\">
-<title>acpins-survey</title>
 <style>
-:root{color-scheme:light dark;--ink:#1d2733;--dim:#5c6875;--line:#d5dbe2;--paper:#fff;--soft:#f4f6f9;--link:#0a58ca;
---bad:#b3261e;--odd:#8a5a00;--good:#1a7f37;--id:#dbe9ff;--cid:#e8edf4;--adr:#dff3e4;--sta:#ffeccc;--wake:#f3e0f6;--if:#ffd9d6}
-@media(prefers-color-scheme:dark){:root{--ink:#dfe5ec;--dim:#98a3b0;--line:#37414d;--paper:#12161b;--soft:#1b2128;--link:#7ab2ff;
---bad:#ff8a80;--odd:#f0b95a;--good:#7ed492;--id:#1f3a63;--cid:#2a323c;--adr:#1d4028;--sta:#4a3713;--wake:#432a49;--if:#5a2622}}
-*{box-sizing:border-box}
-body{font:14px/1.5 system-ui,sans-serif;color:var(--ink);background:var(--paper);max-width:1180px;margin:0 auto;padding:16px}
-h1{font-size:20px;margin:0 0 4px}h2{font-size:16px;margin:26px 0 6px;border-bottom:1px solid var(--line);padding-bottom:3px}
-h2 small{font-weight:400;color:var(--dim);font-size:12px}
-p{margin:4px 0}a{color:var(--link)}
-code,.m,b,td,svg text,pre{font-family:ui-monospace,SFMono-Regular,Menlo,Consolas,monospace;font-size:12px}
-.bad{color:var(--bad)}.odd{color:var(--odd)}.good{color:var(--good)}.dim{color:var(--dim)}
-ul{margin:4px 0;padding-left:18px}li{overflow-wrap:anywhere}
-.scroll{overflow-x:auto}table{border-collapse:collapse}td,th{padding:1px 14px 1px 0;text-align:left;vertical-align:top;white-space:nowrap}
-th{font-weight:600;font-size:12px;color:var(--dim)}
-details{margin-left:14px}summary,.leaf{padding:1px 0;overflow-wrap:anywhere}summary{cursor:pointer}.leaf{margin-left:28px}
-.name{font-family:ui-monospace,Menlo,Consolas,monospace;font-weight:700;font-size:13px}
-b{font-weight:500;border-radius:4px;padding:1px 5px;margin:0 3px;font-size:11px;white-space:nowrap}
-.i{background:var(--id)}.c{background:var(--cid)}.a{background:var(--adr)}.s{background:var(--sta)}.w{background:var(--wake)}.f{background:var(--if)}
-.r{font-family:ui-monospace,Menlo,Consolas,monospace;font-size:11px;color:var(--good)}
-.maps{display:flex;flex-wrap:wrap;gap:18px;margin:8px 0}figure{margin:0}figcaption{font-size:12px;color:var(--dim)}
-svg{max-width:100%;height:auto}svg text{fill:var(--ink)}svg .t{fill:var(--dim);font-size:10px}
-rect.k{fill:var(--id);stroke:var(--link)}rect.n{fill:var(--adr);stroke:var(--good)}rect.q{fill:var(--sta);stroke:var(--odd);stroke-dasharray:4 3}
-line.g{stroke:var(--dim);stroke-dasharray:2 3}
-.bytes{margin:6px 0}.bytes>details,.bytes>summary{margin-left:0}
-.x{display:grid;grid-template-columns:7ch minmax(24ch,48ch) 1fr;gap:0 12px;font:12px/1.5 ui-monospace,Menlo,Consolas,monospace;padding:1px 4px}
-.x:target{background:var(--sta)}.x:nth-child(even){background:var(--soft)}.x span{overflow-wrap:anywhere}.x .o{color:var(--dim)}
-@media(max-width:640px){body{padding:10px;font-size:13px}.x{grid-template-columns:6ch 1fr}.x .h{grid-column:2}.x .v{grid-column:2}
-details{margin-left:8px}.leaf{margin-left:16px}td,th{padding-right:8px}}
-@media print{body{max-width:none;padding:0}.bytes{display:none}details::details-content{content-visibility:visible}summary{list-style:none}}
-</style></head><body>
+:root{color-scheme:light dark;--bg:#fff;--fg:#1f2328;--mut:#646c76;--line:#e3e6ea;--soft:#f6f7f9;--acc:#0a56b5;--red:#b3261e;
+--redb:#fdecea;--amb:#835400;--ambb:#fff3d6;--blu:#0a56b5;--blub:#e6f0fc;--gry:#545c66;--gryb:#eceff2;--grn:#1a6b3c;--kw:#6f42c1}
+@media(prefers-color-scheme:dark){:root{--bg:#101317;--fg:#dbe1e8;--mut:#8f99a5;--line:#262b32;--soft:#171b20;--acc:#79b4ff;
+--red:#ff9b92;--redb:#3b1c1b;--amb:#f0c26b;--ambb:#352a12;--blu:#8fc1ff;--blub:#152a44;--gry:#aab3bd;--gryb:#23282f;--grn:#7fd39d;
+--kw:#c5a5ff}}
+*{box-sizing:border-box}html{scroll-padding-top:1rem}
+body{margin:0;background:var(--bg);color:var(--fg);font:14px/1.5 system-ui,sans-serif}
+a{color:var(--acc);text-decoration:none}a:hover{text-decoration:underline}
+code,pre,.n,.x{font-family:ui-monospace,SFMono-Regular,Menlo,Consolas,monospace;font-size:12.5px}
+header,main,nav,footer{padding:0 1.25rem}header{padding-top:1.2rem}footer{padding-bottom:1.5rem;color:var(--mut)}
+h1{font-size:1.4rem;line-height:1.25;margin:0 0 .4rem}h2{font-size:1.05rem;margin:0 0 .15rem}h2 small{font-weight:400;color:var(--mut)}
+section{padding:1.1rem 0;border-top:1px solid var(--line)}p{margin:.15rem 0;overflow-wrap:anywhere}.lg{color:var(--mut);font-size:12.5px}
+nav a{display:inline-block;margin:0 .9rem .2rem 0;white-space:nowrap}
+dl{display:grid;grid-template-columns:6.5rem 1fr;gap:.2rem .8rem;margin:.3rem 0}dt{color:var(--mut)}dd{margin:0;min-width:0;overflow-wrap:anywhere}
+ul,ol{margin:.2rem 0;padding:0;list-style:none}li{padding:.1rem 0;overflow-wrap:anywhere}
+.k{display:inline-block;padding:0 .5em;margin-right:.6em;border-radius:4px;font-size:12px;white-space:nowrap}
+.problem,.error{background:var(--redb);color:var(--red)}.warning{background:var(--ambb);color:var(--amb)}
+.remark{background:var(--blub);color:var(--blu)}.note{background:var(--gryb);color:var(--gry)}
+.scroll{overflow-x:auto}table{border-collapse:collapse}td,th{padding:.15rem 1.2rem .15rem 0;text-align:left;vertical-align:top}
+td{border-bottom:1px solid var(--line)}th{font-weight:500;color:var(--mut)}
+summary{cursor:pointer;padding:.1rem .4rem;border-radius:5px}summary:hover,details[open]>summary{background:var(--soft)}
+.row{display:grid;grid-template-columns:minmax(9rem,14rem) 7rem 6rem minmax(0,1fr);gap:0 .8rem;overflow-wrap:anywhere}
+.reg{display:grid;grid-template-columns:minmax(10rem,20rem) 5rem minmax(0,1fr);gap:0 .8rem;overflow-wrap:anywhere}
+.n{white-space:pre}.mut{color:var(--mut)}
+.facts{margin:.1rem 0 .5rem 1.2rem;padding:.3rem 0 .4rem .9rem;border-left:2px solid var(--line)}
+pre{margin:.2rem 0;padding:.5rem .6rem;background:var(--soft);border-radius:6px;overflow-x:auto;counter-reset:l}
+pre code{display:block;white-space:pre}pre .l::before{counter-increment:l;content:counter(l);display:inline-block;width:2.6em;
+margin-right:.9em;text-align:right;color:var(--mut)}pre .e::before{content:\"\";display:inline-block;width:2.6em;margin-right:.9em}
+.kw{color:var(--kw)}[id]{scroll-margin-top:2rem}:target{box-shadow:-3px 0 0 var(--acc)}
+.map li{padding-left:.55rem;border-left:4px solid var(--line);margin-bottom:2px}.map .dev,.key .dev{border-color:var(--blu)}
+.map .reg1,.key .reg1{border-color:var(--grn)}.map .named,.key .named{border-color:var(--amb)}
+.key span{border-left:4px solid var(--line);padding-left:.4em;margin-right:1.1em}
+.x{display:grid;grid-template-columns:5rem minmax(9rem,26rem) minmax(0,1fr);gap:0 .8rem;padding:.05rem 0;border-bottom:1px solid var(--line)}
+.x span{overflow-wrap:anywhere}.x .o,.x .h{color:var(--mut)}
+@media(min-width:1000px){body{display:grid;grid-template-columns:13rem minmax(0,1fr)}header,footer{grid-column:1/3}
+nav{position:sticky;top:0;align-self:start;padding-top:1rem}nav a{display:block;margin:0 0 .2rem}}
+@media(max-width:640px){body{font-size:13px}header,main,nav,footer{padding-left:.7rem;padding-right:.7rem}.row,.reg{display:block}
+.row>*,.reg>*{margin-right:.7em}dl{grid-template-columns:1fr;gap:0}dd{margin:0 0 .3rem .8rem}.x{grid-template-columns:4rem 1fr}.x .h,.x .v{grid-column:2}}
+@media print{nav,.bytes,.methods details:not([open]){display:none}body{display:block}details::details-content{content-visibility:visible}}
+</style>
 ";

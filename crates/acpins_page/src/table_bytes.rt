@@ -1,13 +1,14 @@
 //! The bytes of tables beside what they belong to.
 
+use crate::anchors::bytes_id;
 use crate::markup::{AttributeName, Element};
 use crate::parts::{with_text, with_words};
 use crate::writer::Page;
+use acpi_finding_rows::table_row;
 use acpi_overview::{Site, Table};
-use acpi_overview_text::put_table;
-use acpi_text::{put_decimal, put_spaced};
+use acpi_overview_text::put_hex;
+use acpi_text::put_spaced;
 use std::alloc::{AllocError, Global};
-use text_buffer::Text;
 
 /// A blank as wide as half a letter is high.
 const EN_SPACE: &str = "\u{2002}";
@@ -110,16 +111,6 @@ impl MapLine<'_> {
     }
 }
 
-/// The `id` of the range that begins at a site.
-pub(crate) fn anchor_id(alloc: Global, site: Site) -> Text {
-    let mut id = Text::new(alloc);
-    id.put("t");
-    put_decimal(&mut id, site.table as u64);
-    id.put("-");
-    put_decimal(&mut id, site.offset as u64);
-    id
-}
-
 // The bytes between two offsets, as far as the table has them.
 fn bytes_between(bytes: &[u8], from: usize, to: usize) -> &[u8] {
     let to = to.min(bytes.len());
@@ -131,7 +122,7 @@ fn open_range(page: &mut Page, line: &MapLine<'_>, is_first: bool) {
     if !is_first {
         return page.open_class(Element::Div, "x");
     }
-    let id = anchor_id(page.alloc(), line.begin());
+    let id = bytes_id(page.alloc(), line.begin());
     page.open(
         Element::Div,
         &[
@@ -145,7 +136,8 @@ fn open_range(page: &mut Page, line: &MapLine<'_>, is_first: bool) {
 fn put_range(page: &mut Page, line: &MapLine<'_>, bytes: &[u8], is_first: bool) {
     open_range(page, line, is_first);
     page.open_class(Element::Span, "o");
-    put_decimal(&mut page.text, line.from as u64);
+    page.text.put("0x");
+    put_hex(&mut page.text, line.from as u64, 1);
     page.close(Element::Span);
     page.open_class(Element::Span, "h");
     put_spaced(&mut page.text, bytes);
@@ -179,12 +171,18 @@ fn put_ranges(page: &mut Page, lines: &[MapLine<'_>], bytes: &[u8]) {
 }
 
 /// Puts the bytes of each table beside what they belong to, one click away.
-pub(crate) fn put_bytes(page: &mut Page, tables: &[Table<'_>], map: &TableMap<'_>, files: &[&str]) {
-    page.heading("Bytes", "offset, bytes, what they belong to");
+pub(crate) fn put_bytes(
+    page: &mut Page,
+    tables: &[Table<'_>],
+    map: &TableMap<'_>,
+    files: &[&str],
+) -> Result<(), AllocError> {
+    page.open_section("bytes", "Bytes", b"offset, bytes, what they belong to");
     for (number, table) in tables.iter().enumerate() {
         page.open_class(Element::Details, "bytes");
         page.open_class(Element::Summary, "m");
-        put_table(&mut page.text, number, files.get(number), table);
+        let row = table_row(page.alloc(), table, files.get(number).copied())?;
+        page.put_words(&row);
         page.close(Element::Summary);
         page.open(Element::Div, &[]);
         page.end_line();
@@ -192,4 +190,6 @@ pub(crate) fn put_bytes(page: &mut Page, tables: &[Table<'_>], map: &TableMap<'_
         page.close(Element::Div);
         page.close_line(Element::Details);
     }
+    page.close_line(Element::Section);
+    Ok(())
 }

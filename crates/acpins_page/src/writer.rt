@@ -7,7 +7,7 @@ ghost use Rattle.acpins_page.specs.declared.style.TheConstants as constants;
 use crate::markup::{AttributeName, Element};
 use crate::parts::{Attribute, Part, put_part, with_words};
 use crate::style::HEAD;
-use acpi_text::put_decimal;
+use acpi_phrases::NO_BREAK;
 use html_text::Html;
 use std::alloc::{AllocError, Global};
 use text_buffer::Text;
@@ -91,6 +91,14 @@ impl Page {
         self.end_line()
     }
 
+    /// Puts words of rows as text: a blank at which no line is broken is a blank.
+    pub(crate) fn put_words(&mut self, words: &[u8]) {
+        for byte in words {
+            self.text
+                .put_one(if *byte == NO_BREAK { b' ' } else { *byte });
+        }
+    }
+
     /// Puts an element with words in it.
     pub(crate) fn element(&mut self, element: Element, words: &str) {
         self.open(element, &[]);
@@ -98,26 +106,15 @@ impl Page {
         self.close(element)
     }
 
-    /// Puts an element of a class with bytes as its text.
-    pub(crate) fn class_element(&mut self, element: Element, class: &str, bytes: &[u8]) {
-        self.open_class(element, class);
-        self.text.put_all(bytes);
-        self.close(element)
+    /// Opens a section with an `id` and a heading, and says what its abbreviations mean.
+    pub(crate) fn open_section(&mut self, id: &str, heading: &str, legend: &[u8]) {
+        self.open(Element::Section, &[with_words(AttributeName::Id, id)]);
+        self.element(Element::H2, heading);
+        if !legend.is_empty() {
+            self.open_class(Element::P, "lg");
+            self.put_words(legend);
+            self.close(Element::P);
+        }
+        self.end_line()
     }
-
-    /// Puts the heading of a section, and what is said of it in small.
-    pub(crate) fn heading(&mut self, words: &str, about: &str) {
-        self.open(Element::H2, &[]);
-        self.text.put(words);
-        self.text.put(" ");
-        self.element(Element::Small, about);
-        self.close_line(Element::H2)
-    }
-}
-
-/// The decimal digits of a number.
-pub(crate) fn digits(alloc: Global, number: usize) -> Text {
-    let mut digits = Text::new(alloc);
-    put_decimal(&mut digits, number as u64);
-    digits
 }

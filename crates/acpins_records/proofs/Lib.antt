@@ -10,7 +10,6 @@ pub mod Placed
 pub mod Answered
 pub mod Suited
 pub mod Whole
-pub mod Ascii
 pub mod Joins
 pub mod Refused
 pub mod NextPairs

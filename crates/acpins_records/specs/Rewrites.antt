@@ -1,19 +1,10 @@
 -- What is written of rewritten tables (docs/LIBRARY.md).
-use Rattle.std.specs.Prelude.{◌≡◌, ◌⊎◌, ◌<◌, ◌+◌, ℕ, List, [], ◌∷◌, length}
-use Rattle.std.specs.List.{flat_map}
+use Rattle.std.specs.Prelude.{◌≡◌, ◌⊎◌, ◌<◌, ℕ, List, length}
 use Rattle.acpi_rewrite.specs.Rewriting.{AreRewritten}
+pub use Rattle.acpins_lent.specs.Joined.{ends_from, joined}
 use Rattle.acpins_records.specs.declared.outcome.Outcome.{Outcome}
 use Rattle.acpins_records.specs.Outcomes.{bytes_outcome}
 use Rattle.acpins_records.specs.Written.{IsFront}
-
--- tables, one behind the other
-abbrev pub joined : List (List ℕ) → List ℕ
-joined tables = flat_map (λ t. t) tables
-
--- where each ends, the first of which begins there
-abbrev pub ends_from : ℕ → List (List ℕ) → List ℕ
-ends_from begin [] = []
-ends_from begin (t ∷ ts) = (begin + length t) ∷ ends_from (begin + length t) ts
 
 -- the rewritten tables stand at the front of the bytes, and their ends at the front of the ends
 pub record AreTablesWritten (depth : ℕ) (tables : List (List ℕ)) (old new ends ends' : List ℕ)

@@ -1,5 +1,5 @@
 -- What stands in the caller's arrays when a load is written (docs/LIBRARY.md).
-use Rattle.std.specs.Prelude.{◌≡◌, ◌⊎◌, ◌<◌, ◌≤◌, ℕ, List, ◌++◌, map, length, drop, IsTrue}
+use Rattle.std.specs.Prelude.{◌≡◌, ◌⊎◌, ◌<◌, ℕ, List, length, IsTrue}
 use Rattle.std.specs.FinMap.{find, is_sorted}
 use Rattle.acpi_name.specs.Names.{Segment}
 use Rattle.acpi_name.specs.Paths.{path_cmp}
@@ -14,14 +14,10 @@ use Rattle.acpi_declare.specs.declared.fault.LoadFault.TheVariants.{At}
 use Rattle.acpi_places.specs.Places.{AreCodePlaces}
 use Rattle.acpi_places.specs.declared.place.CodePlace.{CodePlace}
 use Rattle.acpins_records.specs.declared.records.Arrays.{Arrays}
-use Rattle.acpins_records.specs.declared.records.LentTable.{LentTable}
+pub use Rattle.acpins_lent.specs.Lent.{IsFront, bytes_of}
 use Rattle.acpins_records.specs.declared.outcome.Outcome.{Outcome}
 use Rattle.acpins_records.specs.Contents.{Contents, AreContents}
 use Rattle.acpins_records.specs.Outcomes.{counted, refused_as, reason_path}
-
--- the bytes of lent tables
-abbrev pub bytes_of : List LentTable → List (List ℕ)
-bytes_of tables = map (λ t. t.bytes.now) tables
 
 -- the contents of the caller's arrays
 abbrev pub contents_of : Arrays → Contents
@@ -54,10 +50,6 @@ pub record IsContentsOf (depth : ℕ) (tables : List (List ℕ)) (c : Contents) 
   pub ascending : IsTrue (is_sorted path_cmp lines)
   pub objects_are : (p : List Segment) → find path_cmp p lines ≡ objects p
   pub contents : AreContents lines links codes c
-
--- items stand at the front of an array, and what is behind them stays
-abbrev pub IsFront : {A : Type 0} → (items old new : List A) → Type 0
-IsFront items old new = (length items ≤ length old) × (new ≡ items ++ drop (length items) old)
 
 -- .. of each array
 pub record AreFronts (c old new : Contents) : Type 0 where

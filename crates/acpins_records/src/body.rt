@@ -4,16 +4,15 @@ ghost use Rattle.std.specs.Prelude.{◌≡◌, ◌≢◌, ◌↔◌, ◌∷◌, 
 ghost use Rattle.acpi_values.specs.declared.fault.BodyFault.{BodyFault};
 ghost use Rattle.acpi_declare.specs.Loads.{HasNoLoad};
 ghost use Rattle.acpi_declare.specs.Refusals.{IsLoadFault};
-ghost use Rattle.acpi_name.specs.Text.{SpellsPathText, IsPathText};
+ghost use Rattle.acpi_name.specs.Text.{IsPathText};
 ghost use Rattle.acpins_records.specs.Bodies.{body_reason_code, read_record, unread_record, HasNoMethod, IsBodyWritten, NeedsText};
 ghost use Rattle.acpins_records.specs.steps.Giving.{BodyOrNone};
 ghost use Rattle.acpins_records.specs.Orders.{IsBodyInAnyOrder};
 ghost use Rattle.acpins_records.specs.Outcomes.{no_outcome, text_outcome};
 ghost use Rattle.acpins_records.specs.Written.{IsFront, IsRefusal, bytes_of};
 
-use crate::outcome::{BAD_PATH, CALL, MEMORY, NO_METHOD, NO_ROOM, OK, Outcome, REFUSED};
-use crate::records::LentTable;
-use crate::refusing::{copy_tables, put_front, write_refusal};
+use crate::outcome::Outcome;
+use crate::refusing::write_refusal;
 use acpi_body::{Body, BodyFault, BodyReason};
 use acpi_declare::LoadFault;
 use acpi_machine::{Machine, explain_shared, load_with_body_at};
@@ -21,10 +20,13 @@ use acpi_name::{Path, PathFault};
 use acpi_space::TreeSpace;
 use acpi_terms::{Depth, Object};
 use acpi_text::put_terms;
+use acpins_lent::{
+    BAD_PATH, CALL, LentTable, MEMORY, NO_METHOD, NO_ROOM, OK, REFUSED, copy_tables, path_in,
+    put_front,
+};
 use acpins_output::body_at;
 use bytes::Bytes;
 use std::alloc::Global;
-use std::str::from_utf8;
 use text_buffer::Text;
 
 /// How the body of a method is given (ACPI 6.5, 20.2.5.2 DefMethod).
@@ -91,17 +93,6 @@ impl BodyRecord {
                 place: 0,
             },
         }
-    }
-}
-
-// The path that some bytes spell.
-fn path_in(alloc: Global, bytes: &[u8]) -> Result<Path, PathFault>
-    ensures found { IfOk result (λ p. SpellsPathText p bytes.now) }
-    ensures bad { result ≡ Err PathFault.BadText → IsPathText bytes.now → ⊥ }
-{
-    match from_utf8(bytes) {
-        Ok(text) => Path::from_text(alloc, text),
-        Err(_) => Err(PathFault::BadText),
     }
 }
 

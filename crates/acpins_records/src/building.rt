@@ -14,7 +14,7 @@ use crate::in_order::InOrder;
 use crate::numbers::{kind_of, numbers_of};
 use crate::parts::Parts;
 use crate::paths::Paths;
-use crate::records::{NONE, ObjectRecord};
+use crate::records::ObjectRecord;
 use crate::targets::put_targets;
 use crate::tree::{Tree, tree_of};
 use acpi_declare::LinkMap;
@@ -23,6 +23,7 @@ use acpi_places::CodePlace;
 use acpi_space::{Space, TreeSpace, Visitor};
 use acpi_terms::Object;
 use acpi_text::{put_links, put_object, put_path};
+use acpins_lent::NONE;
 use std::alloc::{AllocError, Global};
 use text_buffer::Text;
 

@@ -9,14 +9,14 @@ ghost use Rattle.acpins_records.specs.Orders.{LoadInAnyOrder};
 ghost use Rattle.acpins_records.specs.Outcomes.{no_outcome, text_outcome, reason_code, place_of, reason_path};
 ghost use Rattle.acpins_records.specs.Written.{IsFront, IsRefusal, bytes_of};
 
-use crate::outcome::{CALL, MEMORY, NO_ROOM, OK, Outcome, REFUSED, place_of, reason_code};
-use crate::records::LentTable;
-use crate::refusing::{copy_tables, path_bytes, put_front, write_refusal};
+use crate::outcome::{Outcome, place_of, reason_code};
+use crate::refusing::{path_bytes, write_refusal};
 use acpi_declare::{LoadFault, LoadReason};
 use acpi_name::Path;
 use acpi_space::TreeSpace;
 use acpi_terms::{Depth, Object};
 use acpi_verdict::{Checked, Satisfied, Verdict, check_shared};
+use acpins_lent::{CALL, LentTable, MEMORY, NO_ROOM, OK, REFUSED, copy_tables, put_front};
 use bytes::Bytes;
 use std::alloc::{AllocError, Global};
 

@@ -14,13 +14,14 @@ ghost use Rattle.acpins_records.specs.steps.Room.{Fits};
 ghost use Rattle.acpins_records.specs.Written.{AreFronts, IsContentsOf, IsRefusal, IsShort, IsWritten, NeedsRoom, SamePlaces, StayButText, bytes_of, contents_of};
 
 use crate::building::{Records, build_records};
-use crate::outcome::{CALL, MEMORY, NO_ROOM, OK, Outcome, REFUSED};
-use crate::records::{Arrays, LentTable};
-use crate::refusing::{copy_tables, put_front, write_refusal};
+use crate::outcome::Outcome;
+use crate::records::Arrays;
+use crate::refusing::write_refusal;
 use acpi_declare::{Declared, LinkMap, LoadFault, declare_shared};
 use acpi_places::{CodePlace, code_places};
 use acpi_space::{Space, TreeSpace};
 use acpi_terms::{Depth, Object};
+use acpins_lent::{CALL, LentTable, MEMORY, NO_ROOM, OK, REFUSED, copy_tables, put_front};
 use bytes::Bytes;
 use std::alloc::{AllocError, Global};
 

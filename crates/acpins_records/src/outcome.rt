@@ -7,27 +7,6 @@ use acpi_declare::{LoadReason, Refusal};
 use acpi_table::{HEADER_BYTES, TableFault};
 use acpi_terms::ItemReason;
 
-/// All that was asked for is written.
-pub const OK: u32 = 0;
-
-/// A table can't be loaded.
-pub const REFUSED: u32 = 1;
-
-/// An allocation failed.
-pub const MEMORY: u32 = 2;
-
-/// The arrays have too little room: the outcome has how much they need.
-pub const NO_ROOM: u32 = 3;
-
-/// There is no table, or the depth is none from 1 to 4096.
-pub const CALL: u32 = 4;
-
-/// No table declares a method at the path.
-pub const NO_METHOD: u32 = 5;
-
-/// The bytes spell no path.
-pub const BAD_PATH: u32 = 6;
-
 /// How a call ended. What a status doesn't speak of is 0.
 #[repr(C)]
 #[derive(Clone, Copy, Debug)]

@@ -2,17 +2,6 @@
 
 use crate::parts::PartRecord;
 
-/// A whole table, lent by the caller: a pointer and a length (ACPI 6.5, 5.2.6).
-#[repr(C)]
-#[derive(Clone, Copy)]
-pub struct LentTable<'a> {
-    /// Its bytes, with the header.
-    pub bytes: &'a [u8],
-}
-
-/// No place: of a link that finds nothing, of the root's parent, of data and code that an object doesn't have.
-pub const NONE: u64 = 18_446_744_073_709_551_615;
-
 /// An object of the namespace (ACPI 6.5, 5.3). Its line in the text begins with its path.
 #[repr(C)]
 #[derive(Clone, Copy, Debug)]

@@ -1,38 +1,18 @@
 //! Refusals, and what all calls share.
 
-ghost use Rattle.std.specs.Prelude.{◌≡◌, ◌≢◌, ◌⊎◌, ◌≤◌, ◌<◌, length, IfOk, OnErr};
+ghost use Rattle.std.specs.Prelude.{◌≡◌, ◌≢◌, ◌⊎◌, ◌<◌, length, IfOk, OnErr};
 ghost use Rattle.acpi_name.specs.Text.{path_text};
 ghost use Rattle.acpins_records.specs.Outcomes.{refused_as};
-ghost use Rattle.acpins_records.specs.Written.{IsFront, TellsPath, bytes_of};
+ghost use Rattle.acpins_lent.specs.Lent.{IsFront};
+ghost use Rattle.acpins_records.specs.Written.{TellsPath};
 
-use crate::outcome::{MEMORY, Outcome, REFUSED};
-use crate::records::LentTable;
+use crate::outcome::Outcome;
 use acpi_declare::LoadReason;
 use acpi_name::Path;
 use acpi_text::put_path;
-use bytes::Bytes;
+use acpins_lent::{MEMORY, REFUSED, put_front};
 use std::alloc::{AllocError, Global};
 use text_buffer::Text;
-
-/// Copies of the tables.
-pub(crate) fn copy_tables(alloc: Global, tables: &[LentTable<'_>]) -> Result<Vec<Bytes>, AllocError>
-    ensures { IfOk result (λ v. v.items ≡ bytes_of tables.now) }
-{
-    let mut copies = Vec::new(alloc);
-    for table in tables {
-        copies.push(Bytes::copy_from_slice(alloc, table.bytes)?)?;
-    }
-    Ok(copies)
-}
-
-/// Puts items at the front of an array.
-pub(crate) fn put_front<T: Copy>(out: &mut [T], items: &[T])
-    requires { length items.now ≤ length out.old }
-    ensures { IsFront items.now out.old out.new }
-{
-    let (front, _) = out.split_at_mut(items.len());
-    front.copy_from_slice(items);
-}
 
 /// The text of a path.
 pub(crate) fn path_bytes(alloc: Global, path: &Path) -> Result<Vec<u8>, AllocError>

@@ -9,13 +9,13 @@ ghost use Rattle.acpins_records.specs.Outcomes.{no_outcome, bytes_outcome};
 ghost use Rattle.acpins_records.specs.Rewrites.{ends_from, joined, AreTablesWritten, NeedTablesRoom};
 ghost use Rattle.acpins_records.specs.Written.{IsFront, IsRefusal, bytes_of};
 
-use crate::outcome::{CALL, MEMORY, NO_ROOM, OK, Outcome, REFUSED};
-use crate::records::LentTable;
-use crate::refusing::{copy_tables, put_front, write_refusal};
+use crate::outcome::Outcome;
+use crate::refusing::write_refusal;
 use acpi_declare::LoadFault;
 use acpi_rewrite::rewrite_shared;
 use acpi_space::TreeSpace;
 use acpi_terms::{Depth, Object};
+use acpins_lent::{CALL, LentTable, MEMORY, NO_ROOM, OK, REFUSED, copy_tables, put_front};
 use bytes::Bytes;
 use std::alloc::{AllocError, Global};
 

@@ -6,8 +6,8 @@ ghost use Rattle.acpins_records.specs.steps.Adding.{AddsTargets};
 ghost use Rattle.acpins_records.specs.steps.Runs.{Ascend};
 
 use crate::paths::Paths;
-use crate::records::NONE;
 use acpi_name::{Path, Seg};
+use acpins_lent::NONE;
 use std::alloc::AllocError;
 use std::cmp::Ordering;
 

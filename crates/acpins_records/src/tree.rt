@@ -6,9 +6,9 @@ ghost use Rattle.acpins_records.specs.Tree.{IsBelow, IsParent, EndsBelow};
 ghost use Rattle.acpins_records.specs.steps.Runs.{Ascend, AreParents, RunsTo, RunTo};
 
 use crate::paths::Paths;
-use crate::records::NONE;
 use crate::targets::place_of;
 use acpi_name::Seg;
+use acpins_lent::NONE;
 use std::alloc::{AllocError, Global};
 
 // Whether two paths have the same segments.

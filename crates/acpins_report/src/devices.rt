@@ -1,204 +1,183 @@
-//! The tree of devices, as text.
+//! The tree of devices.
 
-use crate::alike::Groups;
-use crate::folding::group_cells;
-use crate::sheet::Sheet;
-use acpi_overview::{Container, Overview};
-use acpi_overview_text::{Row, Rows};
-use std::alloc::{AllocError, Global};
+use crate::sheet::{Sheet, put_blanks, put_column};
+use acpi_device_rows::{Children, DeviceRow, device_details, device_rows};
+use acpi_machine_facts::MachineFacts;
+use acpi_phrases::NO_BREAK;
+use std::alloc::AllocError;
+use text_buffer::Text;
 
-/// The columns of the tree.
-#[derive(Debug, Clone, Copy)]
+/// From how many columns on devices have columns.
+const WIDE: usize = 80;
+
+/// The most columns of places.
+const PLACES: usize = 18;
+
+/// How many columns the rows of the tree need.
+#[derive(Drop)]
 struct Columns {
-    ids: usize,
-    what: usize,
+    name: usize,
     place: usize,
-    status: usize,
-    has: usize,
-    resources: usize,
+    id: usize,
 }
 
-// The columns in lines of a width of 80 to 120.
-fn columns_of(width: usize) -> Columns {
-    let spare = width.saturating_sub(80).min(40);
-    let ids = 18 + spare / 10;
-    let what = ids + 9;
-    let place = what + 12 + spare / 6 + spare / 5;
-    let status = place + 9 + spare / 10;
-    let has = status + 10;
-    Columns {
-        ids,
-        what,
-        place,
-        status,
-        has,
-        resources: has + 9,
-    }
-}
-
-// How many characters of a text come before a column: whole words, if the first of them fits.
-fn fitting(cell: &[u8], room: usize) -> usize {
-    if cell.len() <= room || cell.get(room) == Some(&b' ') {
-        return room.min(cell.len());
-    }
-    let mut blank = 0;
-    for i in 0..room.min(cell.len()) {
-        if cell[i] == b' ' {
-            blank = i;
+impl Columns {
+    fn of(rows: &[DeviceRow<'_>]) -> Columns {
+        let mut columns = Columns {
+            name: 0,
+            place: 0,
+            id: 0,
+        };
+        for row in rows {
+            if !row.numbers.is_empty() {
+                let name = row.name.len().saturating_add(row.depth);
+                columns.name = columns.name.max(name.saturating_add(2));
+                columns.id = columns.id.max(row.id.len().saturating_add(2));
+                let place = row.place.len().min(PLACES);
+                columns.place = columns.place.max(place.saturating_add(2));
+            }
         }
+        columns
     }
-    blank
+
+    // Where the text of a row begins.
+    fn text(&self) -> usize {
+        self.name.saturating_add(self.place).saturating_add(self.id)
+    }
 }
 
-// Puts a text up to a column; what is longer ends with a dot.
-fn put_cell(sheet: &mut Sheet, cell: &[u8], end: usize) {
-    let room = end.saturating_sub(sheet.column()).saturating_sub(1);
-    if cell.len() <= room {
-        return sheet.line.put_all(cell);
+// The text of a row, with its counts where they fit on the line.
+fn text_of(sheet: &Sheet, row: &DeviceRow<'_>, columns: &Columns) -> Text {
+    let mut text = sheet.text();
+    text.put_all(&row.about);
+    let length = columns
+        .text()
+        .saturating_add(row.about.len())
+        .saturating_add(row.counts.len());
+    if sheet.width() >= WIDE && length <= sheet.width() {
+        text.put_all(&row.counts);
     }
-    let count = room.saturating_sub(1).min(cell.len());
-    sheet.line.put_all(&cell[..count]);
-    sheet.put(".")
+    text
 }
 
-// Puts the words of a text that come before a column; where not even the first fits, it ends with a dot.
-fn put_words(sheet: &mut Sheet, words: &[u8], end: usize) {
-    let room = end.saturating_sub(sheet.column()).saturating_sub(1);
-    let count = fitting(words, room).min(words.len());
-    if count == 0 {
-        return put_cell(sheet, words, end);
+// Puts a row of columns.
+fn put_wide(sheet: &mut Sheet, row: &DeviceRow<'_>, columns: &Columns) -> Result<(), AllocError> {
+    let text = text_of(sheet, row, columns);
+    let mut before = sheet.text();
+    put_blanks(&mut before, row.depth);
+    put_column(
+        &mut before,
+        &row.name,
+        columns.name.saturating_sub(row.depth),
+    );
+    if row.place.len().saturating_add(2) <= columns.place {
+        put_column(&mut before, &row.place, columns.place);
+        put_column(&mut before, &row.id, columns.id);
+        sheet.put_row(before.bytes()?, text.bytes()?, columns.text());
+        return Ok(());
     }
-    sheet.line.put_all(&words[..count])
-}
-
-// The same, where two dots tell that words are left out.
-fn put_some_words(sheet: &mut Sheet, words: &[u8], end: usize) {
-    let room = end.saturating_sub(sheet.column()).saturating_sub(1);
-    if words.len() <= room {
-        return sheet.line.put_all(words);
-    }
-    let count = fitting(words, room.saturating_sub(3)).min(words.len());
-    if count == 0 {
-        return put_cell(sheet, words, end);
-    }
-    sheet.line.put_all(&words[..count]);
-    sheet.put(" ..")
-}
-
-// Puts a row with these names and this place, as deep as its container stands.
-fn put_cells(sheet: &mut Sheet, row: &Row<'_, '_>, names: &[u8], place: &[u8], at: Columns) {
-    for _ in 1..row.container.depth.min(12) {
-        sheet.put(" ");
-    }
-    sheet.line.put_all(names);
-    if !row.ids.is_empty() || !row.what.is_empty() {
-        sheet.tab(at.ids);
-        put_words(sheet, &row.ids, at.what);
-        sheet.tab(at.what);
-        put_cell(sheet, row.what.as_bytes(), at.place);
-    }
-    sheet.tab(at.place);
-    put_some_words(sheet, place, at.status);
-    sheet.tab(at.status);
-    put_cell(sheet, &row.status, at.has);
-    sheet.tab(at.has);
-    sheet.line.put_all(&row.has);
-    sheet.tab(at.resources);
-    sheet.line.put_all(&row.resources)
-}
-
-// Puts a row for containers that are alike; for its own where there is no other.
-fn put_alike(
-    alloc: Global,
-    sheet: &mut Sheet,
-    row: &Row<'_, '_>,
-    alike: &[&Container<'_>],
-    at: Columns,
-) -> Result<(), AllocError> {
-    if alike.len() > 1 {
-        let cells = group_cells(alloc, alike, at.ids.saturating_sub(row.container.depth))?;
-        put_cells(sheet, row, &cells.names, &cells.place, at);
-    } else {
-        put_cells(sheet, row, &row.names, &row.place, at);
-    }
-    sheet.end_cut();
-    Ok(())
-}
-
-// Puts the line that names the columns.
-fn put_head(sheet: &mut Sheet, at: Columns) {
-    sheet.put("DEVICES");
-    sheet.tab(at.ids);
-    sheet.put("id");
-    sheet.tab(at.what);
-    sheet.put("what");
-    sheet.tab(at.place);
-    sheet.put("where");
-    sheet.tab(at.status);
-    sheet.put("there");
-    sheet.tab(at.has);
-    sheet.put("has");
-    sheet.tab(at.resources);
-    sheet.head("resources")
-}
-
-// Puts the rows of all containers, whole.
-fn put_all(
-    alloc: Global,
-    sheet: &mut Sheet,
-    rows: &Rows<'_, '_>,
-    at: Columns,
-) -> Result<(), AllocError> {
-    for row in rows.in_order(alloc)? {
-        if rows.is_shown(row) {
-            put_cells(sheet, row, &row.names, &row.place, at);
-            sheet.end();
-        }
+    // A long place has the line for itself.
+    sheet.put_row(before.bytes()?, &row.place, columns.name);
+    if !row.id.is_empty() || !text.bytes()?.is_empty() {
+        before.clear();
+        put_blanks(&mut before, columns.name.saturating_add(columns.place));
+        put_column(&mut before, &row.id, columns.id);
+        sheet.put_row(before.bytes()?, text.bytes()?, columns.text());
     }
     Ok(())
 }
 
-// Puts a row for siblings that are alike, in place of those behind the first of them and of all below these.
-fn put_folded(
-    alloc: Global,
-    sheet: &mut Sheet,
-    rows: &Rows<'_, '_>,
-    at: Columns,
-) -> Result<(), AllocError> {
-    let groups = Groups::new(alloc, rows)?;
-    let mut folded = usize::MAX;
-    for row in rows.in_order(alloc)? {
-        let depth = row.container.depth;
-        if depth > folded {
-            continue;
-        }
-        if groups.first_of(row.number) != row.number {
-            folded = depth;
-            continue;
-        }
-        folded = usize::MAX;
-        if rows.is_shown(row) {
-            let alike = groups.containers(alloc, rows, row.number)?;
-            put_alike(alloc, sheet, row, &alike, at)?;
-        }
+// Puts a row without columns but that of the name.
+fn put_narrow(sheet: &mut Sheet, row: &DeviceRow<'_>, columns: &Columns) -> Result<(), AllocError> {
+    let mut before = sheet.text();
+    put_blanks(&mut before, row.depth);
+    put_column(
+        &mut before,
+        &row.name,
+        columns.name.saturating_sub(row.depth),
+    );
+    let mut text = sheet.text();
+    for byte in &row.place {
+        text.put_one(if *byte == b' ' && row.place.len() < 24 {
+            NO_BREAK
+        } else {
+            *byte
+        });
     }
+    if !row.place.is_empty() && (!row.id.is_empty() || !row.about.is_empty()) {
+        text.put(", ");
+    }
+    text.put_all(&row.id);
+    if !row.id.is_empty() && !row.about.is_empty() {
+        text.put(" ");
+    }
+    text.put_all(&row.about);
+    sheet.put_row(before.bytes()?, text.bytes()?, columns.name);
     Ok(())
 }
 
-/// Puts the tree of devices; without `is_verbose` siblings that are alike stand in one row, and rows are cut at the width.
-/// Only an allocation failure is an error.
+/// Puts the tree, siblings that are alike in one row.
 pub(crate) fn put_devices(
-    alloc: Global,
     sheet: &mut Sheet,
-    overview: &Overview<'_>,
-    is_verbose: bool,
+    facts: &MachineFacts<'_, '_>,
+    children: &Children,
 ) -> Result<(), AllocError> {
-    let rows = &Rows::new(alloc, overview)?;
-    let at = columns_of(sheet.width());
-    put_head(sheet, at);
-    if is_verbose {
-        put_all(alloc, sheet, rows, at)
-    } else {
-        put_folded(alloc, sheet, rows, at)
+    let rows = device_rows(facts, children, true)?;
+    let columns = Columns::of(&rows);
+    for row in &rows {
+        if row.numbers.is_empty() {
+            sheet.put_row(b"", &row.name, 2);
+        } else if sheet.width() >= WIDE {
+            put_wide(sheet, row, &columns)?;
+        } else {
+            put_narrow(sheet, row, &columns)?;
+        }
     }
+    Ok(())
+}
+
+// Puts all that is told of a device.
+fn put_device(
+    sheet: &mut Sheet,
+    facts: &MachineFacts<'_, '_>,
+    row: &DeviceRow<'_>,
+    number: usize,
+) -> Result<(), AllocError> {
+    let Some(details) = device_details(facts, number)? else {
+        return Ok(());
+    };
+    let mut before = sheet.text();
+    put_blanks(&mut before, row.depth);
+    before.put_all(&row.name);
+    let mut head = sheet.text();
+    for words in &details.head {
+        before.put("  ");
+        head.put_text(&before);
+        before.clear();
+        head.put_all(words);
+    }
+    head.put_text(&before);
+    sheet.put_row(b"", head.bytes()?, row.depth.saturating_add(4));
+    for detail in &details.details {
+        let mut before = sheet.text();
+        put_blanks(&mut before, row.depth.saturating_add(4));
+        put_column(&mut before, detail.label.as_bytes(), 12);
+        sheet.put_row(before.bytes()?, &detail.text, row.depth.saturating_add(16));
+    }
+    Ok(())
+}
+
+/// Puts the tree with all that is told of each device.
+pub(crate) fn put_details(
+    sheet: &mut Sheet,
+    facts: &MachineFacts<'_, '_>,
+    children: &Children,
+) -> Result<(), AllocError> {
+    for row in &device_rows(facts, children, false)? {
+        match row.numbers.first() {
+            Some(number) => put_device(sheet, facts, row, *number)?,
+            None => sheet.put_row(b"", &row.name, 2),
+        }
+    }
+    Ok(())
 }

@@ -1,18 +1,17 @@
-//! The report: the overview of one machine as text. It says what its tables declare, and where they touch it, as far as that
-//! is known without running any of their code (ACPI 6.5).
+//! The report: what a machine is, for a terminal, in lines of a width (ACPI 6.5).
 //!
 //! ```text
-//! let text = report(alloc, &overview, &lines, &files, options)?;
+//! let found = found_rows(&facts, &files, &findings, &checked, options.is_verbose)?;
+//! let text = report(&facts, &found, &files, options)?;
 //! ```
 //!
 //! Nothing here opens a file or reads an argument. Only an allocation failure is an error.
 #![tactic(auto)]
 
-mod alike;
 mod devices;
-mod folding;
-mod power;
+mod machine_report;
+mod regions;
 mod sections;
 mod sheet;
 
-pub use sections::{ReportOptions, report};
+pub use machine_report::{ReportOptions, report};

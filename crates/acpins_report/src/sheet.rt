@@ -1,94 +1,61 @@
 //! Text in lines of a width.
 
-use acpi_overview_text::length_of;
+use acpi_overview_text::{is_empty, length_of};
+use acpi_phrases::NO_BREAK;
 use std::alloc::{AllocError, Global};
 use text_buffer::Text;
 
-/// How a line looks where colours are asked for.
+/// How words look where colours are asked for.
 #[derive(Debug, Clone, Copy, PartialEq, Eq)]
 pub(crate) enum Style {
-    /// As any other.
+    /// As any others.
     Plain,
-    /// Bold, for the head of a section.
-    Head,
-    /// Red, for what is lost.
-    Bad,
-    /// Yellow, for what is noticed.
-    Odd,
+    /// Bold, for the heading of a section.
+    Heading,
+    /// Dim, for what abbreviations mean.
+    Legend,
+    /// Red, for what is lost or stops a method.
+    Fault,
+    /// Yellow, for what is probably a mistake.
+    Doubt,
 }
 
-/// The blanks before what goes on from the line above.
-const BROKEN: usize = 8;
+// What turns the colour of a style on; nothing where words look as any others.
+fn colour(style: Style) -> &'static str {
+    match style {
+        Style::Plain => "",
+        Style::Heading => "\x1b[1m",
+        Style::Legend => "\x1b[2m",
+        Style::Fault => "\x1b[31m",
+        Style::Doubt => "\x1b[33m",
+    }
+}
 
-/// Text in lines of at most a width, the last of which is being written.
+/// Text in lines of a width. A line is broken at blanks alone.
 #[derive(Drop)]
 pub(crate) struct Sheet {
-    // The lines that have ended.
     lines: Text,
-    /// The line that is being written.
-    pub(crate) line: Text,
     width: usize,
     is_coloured: bool,
 }
 
-// What turns the colour of a style on; nothing where the line looks as any other.
-fn colour(style: Style) -> &'static str {
-    match style {
-        Style::Plain => "",
-        Style::Head => "\x1b[1m",
-        Style::Bad => "\x1b[31m",
-        Style::Odd => "\x1b[33m",
+/// Puts blanks.
+pub(crate) fn put_blanks(text: &mut Text, count: usize) {
+    for _ in 0..count {
+        text.put(" ");
     }
 }
 
-// Where a text that is too long is broken: at the last blank that leaves it within the room, if there is one.
-fn break_at(text: &[u8], room: usize) -> usize {
-    let end = room.min(text.len());
-    let mut at = end;
-    for i in 2..end {
-        if text[i] == b' ' {
-            at = i;
-        }
-    }
-    at
+/// Puts words, and blanks up to so many columns.
+pub(crate) fn put_column(text: &mut Text, words: &[u8], columns: usize) {
+    text.put_all(words);
+    put_blanks(text, columns.saturating_sub(words.len()))
 }
 
-// Puts a line in a colour, behind so many blanks.
-fn put_line(lines: &mut Text, indent: usize, line: &[u8], colour: &str) {
-    lines.put(colour);
-    for _ in 0..indent {
-        lines.put(" ");
-    }
-    lines.put_all(line);
-    lines.put(if colour.is_empty() { "\n" } else { "\x1b[0m\n" })
-}
-
-// Puts a line in a colour; what is longer than the width goes on in further lines.
-fn put_broken(lines: &mut Text, line: &[u8], width: usize, colour: &str) {
-    let mut rest = line;
-    let mut indent = 0;
-    for _ in 0..line.len() {
-        let room = width.saturating_sub(indent);
-        if rest.len() <= room {
-            break;
-        }
-        let at = break_at(rest, room).min(rest.len());
-        put_line(lines, indent, &rest[..at], colour);
-        rest = rest[at..].trim_ascii_start();
-        indent = BROKEN;
-    }
-    put_line(lines, indent, rest, colour)
-}
-
-// Puts a line; what is longer than the width is left out for two dots.
-fn put_cut(lines: &mut Text, line: &[u8], width: usize) {
-    if line.len() > width {
-        lines.put_all(&line[..width.saturating_sub(2)]);
-        lines.put("..\n")
-    } else {
-        lines.put_all(line);
-        lines.put("\n")
-    }
+/// Puts words and blanks before them in so many columns.
+pub(crate) fn put_right(text: &mut Text, words: &[u8], columns: usize) {
+    put_blanks(text, columns.saturating_sub(words.len()));
+    text.put_all(words)
 }
 
 impl Sheet {
@@ -96,7 +63,6 @@ impl Sheet {
     pub(crate) fn new(alloc: Global, width: usize, is_coloured: bool) -> Sheet {
         Sheet {
             lines: Text::new(alloc),
-            line: Text::new(alloc),
             width,
             is_coloured,
         }
@@ -107,78 +73,107 @@ impl Sheet {
         self.width
     }
 
-    /// The column at which the line goes on.
-    pub(crate) fn column(&self) -> usize {
-        length_of(&self.line)
+    /// An empty text.
+    pub(crate) fn text(&self) -> Text {
+        Text::new(self.lines.alloc())
     }
 
-    /// Puts words behind the line.
-    pub(crate) fn put(&mut self, words: &str) {
-        self.line.put(words)
+    /// Whether nothing is written.
+    pub(crate) fn is_empty(&self) -> bool {
+        is_empty(&self.lines)
     }
 
-    /// Goes on at a column, behind at least one blank where the line is longer.
-    pub(crate) fn tab(&mut self, column: usize) {
-        let count = column.saturating_sub(self.column()).max(1);
-        for _ in 0..count {
-            self.line.put(" ");
+    // Puts bytes of a line: a blank for one at which no line is broken.
+    fn put_bytes(&mut self, bytes: &[u8]) {
+        for byte in bytes {
+            self.lines
+                .put_one(if *byte == NO_BREAK { b' ' } else { *byte });
         }
     }
 
-    /// Ends the line in a style; what is longer than the width goes on in further lines.
-    pub(crate) fn end_as(&mut self, style: Style) {
-        let colour = if self.is_coloured { colour(style) } else { "" };
-        if let Ok(line) = self.line.bytes() {
-            put_broken(&mut self.lines, line.trim_ascii_end(), self.width, colour);
+    // Puts a line, whose first bytes have a style, without blanks at its end.
+    fn put_line(&mut self, line: &Text, style: Style, styled: usize) {
+        let Ok(bytes) = line.bytes() else {
+            return self.lines.put_text(line);
+        };
+        let bytes = bytes.trim_ascii_end();
+        let (front, rest) = bytes.split_at(styled.min(bytes.len()));
+        let has_colour = self.is_coloured && style != Style::Plain && !front.is_empty();
+        if has_colour {
+            self.lines.put(colour(style));
         }
-        self.line.clear()
+        self.put_bytes(front);
+        if has_colour {
+            self.lines.put("\x1b[0m");
+        }
+        self.put_bytes(rest);
+        self.lines.put("\n")
     }
 
-    /// Ends the line; what is longer than the width is left out for two dots.
-    pub(crate) fn end_cut(&mut self) {
-        if let Ok(line) = self.line.bytes() {
-            put_cut(&mut self.lines, line.trim_ascii_end(), self.width);
+    // Puts words behind what stands before them; what is longer than the width goes on in lines that begin at a column. The first
+    // bytes of the first line have a style, and of the others as many.
+    fn put_lines(
+        &mut self,
+        before: &[u8],
+        words: &[u8],
+        column: usize,
+        (style, styled): (Style, usize),
+    ) {
+        let mut line = self.text();
+        line.put_all(before);
+        let mut is_first = true;
+        for word in words.split(|b| *b == b' ') {
+            let length = length_of(&line);
+            let end = length.saturating_add(1).saturating_add(word.len());
+            if !is_first && end > self.width && length > column {
+                self.put_line(&line, style, styled);
+                line.clear();
+                put_blanks(&mut line, column);
+            } else if !is_first {
+                line.put(" ");
+            }
+            line.put_all(word);
+            is_first = false;
         }
-        self.line.clear()
+        self.put_line(&line, style, styled)
     }
 
-    /// Ends the line.
-    pub(crate) fn end(&mut self) {
-        self.end_as(Style::Plain)
+    /// Puts words behind what stands before them; lines behind the first begin at a column.
+    pub(crate) fn put_row(&mut self, before: &[u8], words: &[u8], column: usize) {
+        self.put_lines(before, words, column, (Style::Plain, 0))
     }
 
-    /// A line that heads a section.
-    pub(crate) fn head(&mut self, words: &str) {
-        self.put(words);
-        self.end_as(Style::Head)
+    /// Puts words behind what stands before them, which has a style.
+    pub(crate) fn put_marked_row(
+        &mut self,
+        before: &[u8],
+        words: &[u8],
+        column: usize,
+        style: Style,
+    ) {
+        let styled = before.trim_ascii_end().len();
+        self.put_lines(before, words, column, (style, styled))
     }
 
-    /// Puts a word behind the line, or on a new line that begins at the column, where it doesn't fit any more.
-    pub(crate) fn put_word(&mut self, word: &Text, column: usize) {
-        let length = self
-            .column()
-            .saturating_add(length_of(word))
-            .saturating_add(2);
-        if length > self.width && self.column() > column {
-            self.end();
+    /// Puts the heading of a section behind an empty line, and what its abbreviations mean.
+    pub(crate) fn put_heading(&mut self, heading: &str, legend: &[u8]) {
+        if !self.is_empty() {
+            self.lines.put("\n");
         }
-        if self.column() == 0 {
-            self.tab(column);
-        } else {
-            self.put("  ");
+        let all = self.width;
+        self.put_lines(&[], heading.as_bytes(), 0, (Style::Heading, all));
+        if !legend.is_empty() {
+            self.put_lines(b"  ", legend, 2, (Style::Legend, all));
         }
-        self.line.put_text(word)
+    }
+
+    /// Puts an empty line.
+    pub(crate) fn put_empty(&mut self) {
+        self.lines.put("\n")
     }
 
     /// The lines; an error where a growth of memory was refused.
     pub(crate) fn into_bytes(self) -> Result<Vec<u8>, AllocError> {
-        let Sheet {
-            mut lines,
-            line,
-            ..
-        } = self;
-        // A line that failed isn't among the lines, and keeps its failure when it is cleared.
-        lines.put_text(&line);
-        lines.into_bytes()
+        self.lines.into_bytes()
     }
 }

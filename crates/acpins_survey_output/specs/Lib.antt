@@ -1,6 +1,7 @@
 pub mod Found
 pub mod Links
 pub mod Conditions
+pub mod StepTexts
 pub mod Objects
 pub mod Entries
 pub mod Bodies

@@ -1,1 +1,2 @@
 pub mod MapViews
+pub mod NumberedTexts

@@ -12,6 +12,7 @@
 #![tactic(auto)]
 
 mod condition;
+mod condition_steps;
 mod entries;
 mod found;
 mod links;
@@ -22,7 +23,8 @@ mod ranges;
 mod showing;
 
 pub use condition::{put_condition, put_literal};
-pub use entries::{put_entry, put_numbered};
+pub use condition_steps::{StepText, step_texts};
+pub use entries::{put_conditioned, put_entry, put_numbered};
 pub use found::{put_found, put_note, put_problem};
 pub use links::{put_link, put_links};
 pub use listing::{has_problem, list};

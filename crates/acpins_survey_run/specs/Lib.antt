@@ -3,6 +3,7 @@ pub mod FailureLines
 pub mod Stored
 pub mod Folders
 pub mod Input
+pub mod Machines
 pub mod Prints
 pub mod Runs
 pub mod steps

@@ -1,7 +1,7 @@
 -- What a command makes of tables.
 use Rattle.std.specs.Prelude.{◌≡◌, Some, None}
 use Rattle.acpi_name.specs.Text.{SpellsPathText}
-use Rattle.acpins_survey_words.specs.Words.{Command, listing, showing, using, mapping, telling_bodies, checking, reporting, json, paging}
+use Rattle.acpins_survey_words.specs.Words.{Command, listing, showing, using, mapping, telling_bodies, checking, differing, reporting, json, paging}
 use Rattle.acpins_survey_run.specs.declared.printing.Print.{Print}
 use Rattle.acpins_survey_run.specs.declared.printing.Print.TheVariants as prints
 
@@ -15,7 +15,8 @@ IsPrintOf mapping prints.Map = Unit {0}
 IsPrintOf telling_bodies prints.Bodies = Unit {0}
 IsPrintOf (checking is_verbose ids) (prints.Check verbose ignored) =
     (verbose ≡ is_verbose) × (ignored.items ≡ ids)
-IsPrintOf (reporting is_verbose) (prints.Report verbose) = verbose ≡ is_verbose
+IsPrintOf (differing is_verbose) (prints.Diff verbose) = verbose ≡ is_verbose
+IsPrintOf (reporting is_verbose) (prints.Report verbose width) = verbose ≡ is_verbose
 IsPrintOf json prints.Json = Unit {0}
 IsPrintOf (paging out) prints.Html = Unit {0}
 IsPrintOf _ _ = ⊥

@@ -40,4 +40,4 @@ pub use folders::Folders;
 pub use host::{HostConsole, HostFolders, arguments};
 pub use printing::{Output, Print, Printer};
 pub use program::{Ending, output_of, report_failure, run, run_telling};
-pub use tables::{FoundTables, TableFile};
+pub use tables::{FoundMachines, FoundTables, TableFile, tables_in};

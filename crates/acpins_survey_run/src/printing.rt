@@ -3,6 +3,7 @@
 ghost use Rattle.std.specs.Prelude.{◌≡◌, ◌⊎◌, ℕ, List, IfOk, IfErr, Err, Some};
 ghost use Rattle.acpi_name.specs.Text.{SpellsPathText};
 ghost use Rattle.acpins_survey_words.specs.Words.{Command as AskedCommand, command_in};
+ghost use Rattle.acpins_survey_run.specs.Machines.{Machines, machines_in};
 ghost use Rattle.acpins_survey_run.specs.Prints.{IsPrintOf};
 ghost use Rattle.acpins_survey_run.specs.Runs.{path_word};
 ghost use Rattle.acpins_survey_run.specs.steps.Refusals.{IsUnprinted};
@@ -10,7 +11,7 @@ ghost use Rattle.acpins_survey_run.specs.declared.failure.PrintFault.{PrintFault
 
 use crate::failure::{Failure, PrintFault};
 use crate::lines::printed_name;
-use crate::tables::FoundTables;
+use crate::tables::FoundMachines;
 use acpi_check_ids::CheckId;
 use acpi_code::Depth;
 use acpi_name::{Path, PathFault};
@@ -43,10 +44,17 @@ pub enum Print {
         /// The ids of the findings that are left out.
         ignored: Vec<CheckId>,
     },
+    /// What differs between two machines.
+    Diff {
+        /// Whether nothing is folded.
+        is_verbose: bool,
+    },
     /// The overview for people.
     Report {
         /// Whether all is told.
         is_verbose: bool,
+        /// The most characters of a line, where they are given.
+        width: Option<usize>,
     },
     /// All of it, as JSON.
     Json,
@@ -59,32 +67,33 @@ pub enum Print {
 pub struct Output {
     /// The bytes for standard output.
     pub text: Vec<u8>,
-    /// 0, or 3 where there is a problem in a table; of `check` 3 where there is an error or a warning.
+    /// 0, or 3 where there is a problem in a table; of `check` 3 where there is an error or a warning, of `diff` where the
+    /// machines differ.
     pub status: u8,
 }
 
 /// Makes texts of tables. Contracts see which texts these may be.
 pub trait Printer {
     // Which text, with which status, a command makes of tables that are read to a depth.
-    ghost makes: { AskedCommand → ℕ → List (List ℕ) → ℕ → List ℕ → Type 0 };
+    ghost makes: { AskedCommand → ℕ → Machines → ℕ → List ℕ → Type 0 };
 
     // Whether no object may be at the path that the word of a command spells.
-    ghost has_nothing: { AskedCommand → ℕ → List (List ℕ) → Type 0 };
+    ghost has_nothing: { AskedCommand → ℕ → Machines → Type 0 };
 
-    /// The text that is made of these tables, with at most `depth` levels of terms; a report has colours or not.
+    /// The text that is made of the tables of machines, with at most `depth` levels of terms; a report has colours or not.
     fn text(
         &self,
         alloc: Global,
         print: &Print,
-        found: &FoundTables,
+        found: &FoundMachines,
         depth: Depth,
         is_coloured: bool,
     ) -> Result<Output, PrintFault>
         ensures made { IfOk result (λ m. (command : AskedCommand) → IsPrintOf command print.now
-            → makes command depth found.now.tables.items m.status m.text.items) }
+            → makes command depth (machines_in found.now) m.status m.text.items) }
         ensures statuses { IfOk result (λ m. (m.status ≡ 0) ⊎ (m.status ≡ 3)) }
         ensures nothing { result ≡ Err PrintFault.NoSuchPath → (command : AskedCommand)
-            → IsPrintOf command print.now → has_nothing command depth found.now.tables.items };
+            → IsPrintOf command print.now → has_nothing command depth (machines_in found.now) };
 }
 
 // The path that the word spells.
@@ -122,8 +131,12 @@ pub fn print_of(alloc: Global, command: &Command<'_>) -> Result<Print, Failure>
             is_verbose: *is_verbose,
             ignored: Vec::from_slice(alloc, ignored)?,
         }),
-        Command::Report { is_verbose } => Ok(Print::Report {
+        Command::Diff { is_verbose } => Ok(Print::Diff {
             is_verbose: *is_verbose,
+        }),
+        Command::Report { is_verbose, width } => Ok(Print::Report {
+            is_verbose: *is_verbose,
+            width: *width,
         }),
         Command::Json => Ok(Print::Json),
         Command::Html(_) => Ok(Print::Html),

@@ -8,8 +8,9 @@ ghost use Rattle.acpins_words.specs.Words.{texts};
 ghost use Rattle.acpins_survey_words.specs.Words.{asked_in, command_in};
 ghost use Rattle.acpins_survey_run.specs.FailureLines.{failure_line};
 ghost use Rattle.acpins_survey_run.specs.Failures.{status_of};
-ghost use Rattle.acpins_survey_run.specs.Runs.{AreTablesOf, FailsWith, IsFailureOf, IsOutput, IsRunFailure, LeavesFiles, StoresOutput, page_file};
-ghost use Rattle.acpins_survey_run.specs.steps.Refusals.{IsPrinted, IsStored, IsTablesFault, IsUnwritten};
+ghost use Rattle.acpins_survey_run.specs.Machines.{machines_in};
+ghost use Rattle.acpins_survey_run.specs.Runs.{AreMachinesOf, AreTablesOf, FailsWith, IsFailureOf, IsOutput, IsRunFailure, LeavesFiles, StoresOutput, first_names, page_file, second_names};
+ghost use Rattle.acpins_survey_run.specs.steps.Refusals.{IsMachinesFault, IsPrinted, IsStored, IsTablesFault, IsUnwritten};
 ghost use Rattle.acpins_survey_run.specs.declared.failure.Failure.{Failure};
 
 use crate::console::Console;
@@ -18,7 +19,7 @@ use crate::folders::Folders;
 use crate::lines::put_line;
 use crate::printing::{Output, Printer, print_of};
 use crate::sources::files_of;
-use crate::tables::{FoundTables, read_tables};
+use crate::tables::{FoundMachines, FoundTables, read_tables};
 use crate::writing::{put_file, spare_tables};
 use acpins_io::{Files, PartWriter, StreamWriter, UntilFailure, WriteErrors, Written, write_out};
 use acpins_survey_words::{Command, Invocation, Request, VERSION, fault_text, help_of, read_words};
@@ -26,6 +27,7 @@ use acpins_words::WordsFault;
 use bytes::Bytes;
 use std::alloc::Global;
 use std::io::Write;
+use std::slice::from_ref;
 
 /// How a run ended.
 #[derive(Clone, Copy, Debug, PartialEq, Eq)]
@@ -47,29 +49,91 @@ fn page_file<'a>(command: &Command<'a>) -> Option<&'a str>
     }
 }
 
-// The tables of the files that the arguments stand for, none of which is written.
+// The tables of the files that these arguments stand for, none of which is written.
 fn tables_of<F: Files, D: Folders>(
     alloc: Global,
     request: &Request<'_>,
+    names: &[&str],
     files: &mut F,
     folders: &mut D,
 ) -> Result<FoundTables, Failure>
     ensures ok { IfOk result (λ found. AreTablesOf (F.bytes_of files.old)
-        (D.names_in folders.old) (asked_in request.now) found.tables.items) }
+        (D.names_in folders.old) (asked_in request.now) (texts names.now) found.tables.items) }
     ensures err { IfErr result (IsTablesFault (F.bytes_of files.old) (D.names_in folders.old)
-        (F.last_error files.new, D.last_error folders.new) (asked_in request.now)) }
+        (F.last_error files.new, D.last_error folders.new) (asked_in request.now)
+        (texts names.now)) }
+    ensures files { F.bytes_of files.new ≡ F.bytes_of files.old }
+    ensures folders { D.names_in folders.new ≡ D.names_in folders.old }
     ensures others { F.written_to files.new ≡ F.written_to files.old }
 {
-    let sources = files_of(alloc, folders, &request.files)?;
+    let sources = files_of(alloc, folders, names)?;
     spare_tables(alloc, files, page_file(&request.command), &sources)?;
     read_tables(alloc, files, &sources, request.hex)
 }
 
-// Tells that work over these tables begins.
-fn tell_work<C: Console>(console: &mut C, tables: &[Bytes]) {
+// The arguments that stand for the files of the machine that a command is over; of `diff` for those of the first.
+fn first_names<'s, 'a>(command: &Command<'a>, names: &'s [&'a str]) -> &'s [&'a str]
+    ensures { texts result.now ≡ first_names (command_in command.now) (texts names.now) }
+{
+    match command {
+        Command::Diff { .. } => match names {
+            [old, _] => from_ref(old),
+            _ => names,
+        },
+        _ => names,
+    }
+}
+
+// .. for those of the second, if there are two.
+fn second_names<'s, 'a>(command: &Command<'a>, names: &'s [&'a str]) -> Option<&'s [&'a str]>
+    ensures { option_map (λ names. texts names.now) result
+        ≡ second_names (command_in command.now) (texts names.now) }
+{
+    match command {
+        Command::Diff { .. } => match names {
+            [_, new] => Some(from_ref(new)),
+            _ => None,
+        },
+        _ => None,
+    }
+}
+
+// The tables of the machine that a command is over; of `diff` those of two.
+fn machines_of<F: Files, D: Folders>(
+    alloc: Global,
+    request: &Request<'_>,
+    files: &mut F,
+    folders: &mut D,
+) -> Result<FoundMachines, Failure>
+    ensures ok { IfOk result (λ found. AreMachinesOf (F.bytes_of files.old)
+        (D.names_in folders.old) (asked_in request.now) (machines_in found)) }
+    ensures err { IfErr result (IsMachinesFault (F.bytes_of files.old) (D.names_in folders.old)
+        (F.last_error files.new, D.last_error folders.new) (asked_in request.now)) }
+    ensures others { F.written_to files.new ≡ F.written_to files.old }
+{
+    let first = first_names(&request.command, &request.files);
+    let first = tables_of(alloc, request, first, files, folders)?;
+    let second = match second_names(&request.command, &request.files) {
+        Some(names) => Some(tables_of(alloc, request, names, files, folders)?),
+        None => None,
+    };
+    Ok(FoundMachines { first, second })
+}
+
+// How many bytes tables have.
+fn bytes_of(tables: &[Bytes]) -> usize {
     let mut bytes: usize = 0;
     for table in tables {
         bytes = bytes.saturating_add(table.len());
+    }
+    bytes
+}
+
+// Tells that work over these tables begins.
+fn tell_work<C: Console>(console: &mut C, found: &FoundMachines) {
+    let mut bytes = bytes_of(&found.first.tables);
+    if let Some(second) = &found.second {
+        bytes = bytes.saturating_add(bytes_of(&second.tables));
     }
     console.work_begins(bytes);
 }
@@ -116,8 +180,8 @@ fn survey_output<T: Printer, F: Files, D: Folders, C: Console>(
     ensures left { OnErr result (F.written_to files.new ≡ F.written_to files.old) }
 {
     let print = print_of(alloc, &request.command)?;
-    let found = tables_of(alloc, request, files, folders)?;
-    tell_work(console, &found.tables);
+    let found = machines_of(alloc, request, files, folders)?;
+    tell_work(console, &found);
     let is_coloured = console.shows_colours();
     let output = printer.text(alloc, &print, &found, request.depth, is_coloured)?;
     let text = deliver(alloc, output.text, page_file(&request.command), files)?;

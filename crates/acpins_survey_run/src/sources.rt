@@ -149,6 +149,7 @@ pub fn files_of<'a, D: Folders>(
         (map (λ name. name.now) names.now) (map string_bytes files.items)) }
     ensures err { IfErr result (IsFoldersFault (D.names_in folders.old)
         (D.last_error folders.new) (map (λ name. name.now) names.now)) }
+    ensures stays { D.names_in folders.new ≡ D.names_in folders.old }
 {
     let mut files = Vec::new(alloc);
     for name in names {

@@ -37,6 +37,15 @@ pub struct FoundTables {
     pub sources: Vec<TableFile>,
 }
 
+/// The tables of the machine that a command is over, or of two.
+#[derive(Debug, Drop)]
+pub struct FoundMachines {
+    /// The machine; of `diff` the old one.
+    pub first: FoundTables,
+    /// Of `diff` the new one.
+    pub second: Option<FoundTables>,
+}
+
 impl FoundTables {
     // No tables.
     fn new(alloc: Global) -> FoundTables
@@ -152,8 +161,13 @@ fn decode_hex(alloc: Global, name: &str, text: &[u8]) -> Result<Vec<u8>, Failure
     }
 }
 
-// The tables of a file that has this content.
-fn tables_in(alloc: Global, name: &str, hex: bool, content: Vec<u8>) -> Result<Vec<Bytes>, Failure>
+/// The tables of a file that has this content, hexadecimal text or not. A failure names the file.
+pub fn tables_in(
+    alloc: Global,
+    name: &str,
+    hex: bool,
+    content: Vec<u8>,
+) -> Result<Vec<Bytes>, Failure>
     ensures ok { IfOk result (λ v. AreTablesIn hex (Some content.items) v.items) }
     ensures err { IfErr result (IsFileFault hex name.now (Some content.items) None) }
 {
@@ -216,6 +230,7 @@ pub fn read_tables<F: Files>(
         (map string_bytes names.now) found.tables.items) }
     ensures err { IfErr result (IsFilesFault (F.bytes_of files.old) hex
         (F.last_error files.new) (map string_bytes names.now)) }
+    ensures stays { F.bytes_of files.new ≡ F.bytes_of files.old }
     ensures others { F.written_to files.new ≡ F.written_to files.old }
 {
     let mut found = FoundTables::new(alloc);

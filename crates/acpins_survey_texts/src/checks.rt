@@ -11,6 +11,19 @@ use acpi_survey::Survey;
 use acpins_check_text::{CheckOptions, CheckText, check_text};
 use std::alloc::{AllocError, Global};
 
+/// What checks find in a machine. What is lost, refused and noticed in its tables is given.
+pub(crate) fn found_by(
+    machine: &Machine<'_>,
+    findings: &Findings,
+) -> Result<Vec<Finding>, AllocError> {
+    let mut found = Vec::new(machine.alloc);
+    let reads = check_names(machine, findings, &mut found)?;
+    check_bodies(machine, &reads, &mut found)?;
+    check_module(machine, &mut found)?;
+    check_objects(machine, &mut found)?;
+    Ok(found)
+}
+
 /// What the checks find in the tables of a survey. What is lost, refused and noticed in them is given.
 pub(crate) fn findings_of_checks(
     alloc: Global,
@@ -19,12 +32,7 @@ pub(crate) fn findings_of_checks(
 ) -> Result<Vec<Finding>, AllocError> {
     let read = read_bodies(alloc, survey)?;
     let machine = Machine::new(alloc, survey, &read)?;
-    let mut found = Vec::new(alloc);
-    let reads = check_names(&machine, findings, &mut found)?;
-    check_bodies(&machine, &reads, &mut found)?;
-    check_module(&machine, &mut found)?;
-    check_objects(&machine, &mut found)?;
-    Ok(found)
+    found_by(&machine, findings)
 }
 
 /// What is printed of what is wrong in the tables of a survey, or probably a mistake. What is lost, refused and noticed in them

@@ -1,36 +1,39 @@
 //! Texts of a survey.
 
-ghost use Rattle.std.specs.Prelude.{◌≡◌, ◌⊎◌, ◌↔◌, IfOk, Err, [], false};
+ghost use Rattle.std.specs.Prelude.{◌≡◌, ◌⊎◌, ◌↔◌, IfOk, Err, [], Some, false};
 ghost use Rattle.acpi_survey.specs.SurveyOrder.{IsInOrder};
 ghost use Rattle.acpi_survey.specs.Surveys.{IsSurvey};
 ghost use Rattle.acpins_survey_output.specs.Listings.{IsListing};
 ghost use Rattle.acpins_survey_uses.specs.Nothing.{HasNothing};
 ghost use Rattle.acpins_page.specs.Page.{IsPage};
-ghost use Rattle.acpins_survey_words.specs.Words.{Command as AskedCommand};
+ghost use Rattle.acpins_survey_words.specs.Words.{Command as AskedCommand, differing};
 ghost use Rattle.acpins_survey_run.specs.Prints.{IsPrintOf};
 ghost use Rattle.acpins_survey_run.specs.declared.failure.PrintFault.{PrintFault};
-ghost use Rattle.acpins_survey_texts.specs.Texts.{AreFindings, HasNothingAt, HasNothingIn, IsMade, IsTextOf, TellsProblems};
+ghost use Rattle.acpins_survey_texts.specs.Texts.{AreFindings, HasNothingAt, HasNothingIn, IsMade, IsTextOf, TellsDiffering, TellsProblems};
 
-use crate::checks::check_of;
+use crate::checks::{check_of, found_by};
+use crate::diffs::{Version, diff_output};
 use crate::json::json_of;
-use crate::lines::lines_of;
 use acpi_body_notes::findings_of;
 use acpi_check_ids::CheckId;
+use acpi_check_machine::{Machine, read_bodies};
 use acpi_code::Depth;
-use acpi_facts::facts_of;
+use acpi_constants::Constants;
+use acpi_finding_rows::found_rows;
 use acpi_findings::Findings;
+use acpi_machine_facts::MachineFacts;
 use acpi_name::Path;
 use acpi_overview::overview_of;
 use acpi_survey::{Survey, survey};
 use acpins_page::{HEAD, html};
 use acpins_report::{ReportOptions, report};
 use acpins_survey_output::{bodies, has_problem, list, map, show};
-use acpins_survey_run::{FoundTables, Output, Print, PrintFault, Printer};
+use acpins_survey_run::{FoundMachines, FoundTables, Output, Print, PrintFault, Printer};
 use acpins_survey_uses::{list_with_bodies, uses};
 use std::alloc::{AllocError, Global};
 use std::mem;
 
-/// The most characters of a report's line.
+/// The most characters of a report's line, where none are given.
 const REPORT_WIDTH: usize = 100;
 
 // The survey of these tables.
@@ -41,8 +44,8 @@ fn survey_of(alloc: Global, found: &FoundTables, depth: Depth) -> Result<Survey,
     survey(alloc, &found.tables, depth)
 }
 
-// What is lost, refused and noticed in its tables, and noticed in the bodies of their methods.
-fn findings_in(alloc: Global, survey: &Survey) -> Result<Findings, AllocError>
+/// What is lost, refused and noticed in the tables of a survey, and noticed in the bodies of their methods.
+pub fn findings_in(alloc: Global, survey: &Survey) -> Result<Findings, AllocError>
     ensures { IsInOrder survey.now → IfOk result (AreFindings survey.now) }
 {
     findings_of(alloc, survey)
@@ -54,19 +57,16 @@ fn report_of(
     survey: &Survey,
     findings: &Findings,
     found: &FoundTables,
-    is_coloured: bool,
-    is_verbose: bool,
+    options: ReportOptions,
 ) -> Result<Vec<u8>, AllocError> {
     let names = found.names(alloc)?;
-    let options = ReportOptions {
-        width: REPORT_WIDTH,
-        is_coloured,
-        is_verbose,
-    };
-    let overview = overview_of(alloc, facts_of(alloc, survey)?)?;
-    let conditional = overview.conditional(alloc, options.limit())?;
-    let lines = lines_of(alloc, survey, findings, &conditional)?;
-    report(alloc, &overview, &lines, &names, options)
+    let read = read_bodies(alloc, survey)?;
+    let machine = Machine::new(alloc, survey, &read)?;
+    let overview = overview_of(alloc, Constants::new(&machine)?.facts()?)?;
+    let facts = MachineFacts::new(&machine, &overview)?;
+    let checked = found_by(&machine, findings)?;
+    let rows = found_rows(&facts, &names, findings, &checked, options.is_verbose)?;
+    report(&facts, &rows, &names, options)
 }
 
 // The page, which names them so too.
@@ -79,10 +79,13 @@ fn page_of(
     ensures { IfOk result (λ page. IsPage HEAD.now page.items) }
 {
     let names = found.names(alloc)?;
-    let overview = overview_of(alloc, facts_of(alloc, survey)?)?;
-    let conditional = overview.conditional(alloc, None)?;
-    let lines = lines_of(alloc, survey, findings, &conditional)?;
-    html(alloc, &overview, &lines, &map(alloc, survey)?, &names)
+    let read = read_bodies(alloc, survey)?;
+    let machine = Machine::new(alloc, survey, &read)?;
+    let overview = overview_of(alloc, Constants::new(&machine)?.facts()?)?;
+    let facts = MachineFacts::new(&machine, &overview)?;
+    let checked = found_by(&machine, findings)?;
+    let rows = found_rows(&facts, &names, findings, &checked, true)?;
+    html(&facts, &rows, &map(alloc, survey)?, &names)
 }
 
 // The list, with what methods declare or without.
@@ -139,8 +142,8 @@ fn with_status(findings: &Findings, text: Vec<u8>) -> Output
     Output { text, status }
 }
 
-// What is printed of a survey; a report has colours or not.
-fn output_of(
+/// What is printed of a survey; a report has colours or not, and names the files of the tables that have one.
+pub fn output_of(
     alloc: Global,
     print: &Print,
     survey: &Survey,
@@ -173,13 +176,46 @@ fn output_of(
             is_verbose,
             ignored,
         } => Ok(check_output(alloc, survey, findings, *is_verbose, ignored)?),
-        Print::Report { is_verbose } => {
-            let text = report_of(alloc, survey, findings, found, is_coloured, *is_verbose)?;
+        Print::Diff { is_verbose } => {
+            let only = Version { survey, findings };
+            Ok(diff_output(alloc, only, only, *is_verbose)?)
+        }
+        Print::Report { is_verbose, width } => {
+            let options = ReportOptions {
+                width: (*width).unwrap_or(REPORT_WIDTH),
+                is_coloured,
+                is_verbose: *is_verbose,
+            };
+            let text = report_of(alloc, survey, findings, found, options)?;
             Ok(with_status(findings, text))
         }
         Print::Json => Ok(with_status(findings, json_of(alloc, survey, findings)?)),
         Print::Html => Ok(with_status(findings, page_of(alloc, survey, findings, found)?)),
     }
+}
+
+// What `diff` prints of a machine and of a second one, which has these tables.
+fn second_output(
+    alloc: Global,
+    old: Version<'_>,
+    found: &FoundTables,
+    depth: Depth,
+    is_verbose: bool,
+) -> Result<Output, AllocError>
+    ensures same { IsInOrder old.entry.survey.now → IfOk result (λ m. TellsDiffering
+        (differing is_verbose) depth old.entry.survey.now (Some found.now.tables.items) m.status) }
+    ensures statuses { IfOk result (λ m. (m.status ≡ 0) ⊎ (m.status ≡ 3)) }
+{
+    let survey = survey_of(alloc, found, depth)?;
+    let findings = findings_in(alloc, &survey)?;
+    let new = Version {
+        survey: &survey,
+        findings: &findings,
+    };
+    let output = diff_output(alloc, old, new, is_verbose)?;
+    mem::forget(findings);
+    mem::forget(survey);
+    Ok(output)
 }
 
 /// Prints the survey of tables.
@@ -195,13 +231,22 @@ impl Printer for SurveyPrinter {
         &self,
         alloc: Global,
         print: &Print,
-        found: &FoundTables,
+        found: &FoundMachines,
         depth: Depth,
         is_coloured: bool,
     ) -> Result<Output, PrintFault> {
-        let survey = survey_of(alloc, found, depth)?;
+        let survey = survey_of(alloc, &found.first, depth)?;
         let findings = findings_in(alloc, &survey)?;
-        let output = output_of(alloc, print, &survey, &findings, found, is_coloured)?;
+        let version = Version {
+            survey: &survey,
+            findings: &findings,
+        };
+        let output = match (print, &found.second) {
+            (Print::Diff { is_verbose }, Some(second)) => {
+                second_output(alloc, version, second, depth, *is_verbose)?
+            }
+            _ => output_of(alloc, print, &survey, &findings, &found.first, is_coloured)?,
+        };
         // The process ends soon and gives all memory back at once; to take these apart first costs time.
         mem::forget(findings);
         mem::forget(survey);

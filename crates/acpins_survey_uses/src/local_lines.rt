@@ -1,5 +1,6 @@
 //! Entries, and the objects that bodies declare, line by line.
 
+use acpi_condition_list::{ConditionedEntry, conditions_of};
 use acpi_entries::bodies_of;
 use acpi_findings::Findings;
 use acpi_locals::LocalObject;
@@ -7,7 +8,7 @@ use acpi_name::Path;
 use acpi_survey::Survey;
 use acpi_text::put_path;
 use acpi_use_list::locals_of_machine;
-use acpins_survey_output::{put_found, put_kind, put_links, put_numbered};
+use acpins_survey_output::{StepText, put_conditioned, put_found, put_kind, put_links, step_texts};
 use std::alloc::{AllocError, Global};
 use text_buffer::Text;
 
@@ -48,17 +49,18 @@ fn put_locals_before<'s, 'a>(
     rest
 }
 
-// Puts the lines of entries and of objects of bodies, by path.
+// Puts the lines of entries, whose conditions are made of these literals, and of objects of bodies, by path.
 fn put_objects(
     text: &mut Text,
     survey: &Survey,
-    order: &[(&Path, usize)],
+    literals: &[StepText],
+    entries: &[ConditionedEntry<'_>],
     locals: &[LocalObject<'_>],
 ) -> Result<(), AllocError> {
     let mut rest = locals;
-    for numbered in order {
-        rest = put_locals_before(text, survey, rest, numbered.0);
-        put_numbered(text, survey, numbered.0, numbered.1)?;
+    for entry in entries {
+        rest = put_locals_before(text, survey, rest, entry.path);
+        put_conditioned(text, survey, literals, entry)?;
     }
     put_locals(text, survey, rest);
     Ok(())
@@ -74,8 +76,10 @@ pub fn list_with_bodies(
     let bodies = bodies_of(survey)?;
     let locals = locals_of_machine(survey, &bodies)?;
     let order = survey.entries().paths.by_path()?;
+    let conditions = conditions_of(survey, &order)?;
+    let literals = step_texts(survey, &conditions.steps)?;
     let mut text = Text::new(alloc);
-    put_objects(&mut text, survey, &order, &locals)?;
+    put_objects(&mut text, survey, &literals, &conditions.entries, &locals)?;
     put_found(&mut text, findings.problems(), findings.notes());
     text.into_bytes()
 }

@@ -1,1 +1,2 @@
 mod Ids
+mod WidthText

@@ -1,11 +1,13 @@
 -- The arguments that follow the program's name, and what they ask for.
-use Rattle.std.specs.Prelude.{Bool, ◌||◌, List, [], ◌∷◌, ◌++◌, Option, Some, None, codes, if◌then◌else◌, nat_eq, option_and_then, option_map, unwrap_or}
+use Rattle.std.specs.Prelude.{Bool, true, ◌&&◌, ◌||◌, nat_le, List, [], ◌∷◌, ◌++◌, Option, Some, None, codes, if◌then◌else◌, nat_eq, option_and_then, option_map, unwrap_or}
 use Rattle.std.specs.List.{before_first, list_any, starts_with}
-use Rattle.std.specs.Str.{bytes_eq}
+use Rattle.std.specs.Option.{option_map_or}
+use Rattle.std.specs.Str.{all_ascii_digits, bytes_eq}
+use Rattle.std.specs.Str.Parse.{digits_value}
 use Rattle.clap.specs.Simple.{App, Shape, new_rule, with_subcommand}
 use Rattle.clap.specs.Takes.{is_given}
 use Rattle.clap.specs.Walk.{Row, Rule, Text, all_of, first_of, texts}
-use Rattle.clap.specs.declared.builder.ArgAction.TheVariants.{Append, SetTrue}
+use Rattle.clap.specs.declared.builder.ArgAction.TheVariants.{Append, Set, SetTrue}
 use Rattle.acpi_check_ids.specs.Ids.{id_of}
 use Rattle.acpi_check_ids.specs.declared.ids.CheckId.{CheckId}
 use Rattle.acpins_words.specs.Arguments as arguments
@@ -45,10 +47,20 @@ check_shape =
     record files { rules = (files.rules ++ verbose_rule ∷ []) ++ ignore_rule ∷ [] }
 
 -- a command over files, with `-v`
+abbrev pub verbose_shape : Text → Shape
+verbose_shape name =
+    let files = files_shape name in
+    record files { rules = files.rules ++ verbose_rule ∷ [] }
+
+-- `--width NUMBER`
+abbrev pub width_rule : Rule
+width_rule = record (new_rule (codes "width")) { long = Some (codes "width"); action = Some Set }
+
+-- a command over files, with `-v` and `--width NUMBER`
 abbrev pub report_shape : Shape
 report_shape =
     let files = files_shape (codes "report") in
-    record files { rules = files.rules ++ verbose_rule ∷ [] }
+    record files { rules = (files.rules ++ verbose_rule ∷ []) ++ width_rule ∷ [] }
 
 -- the command, as clap reads it
 abbrev pub survey_app : App
@@ -60,13 +72,15 @@ survey_app =
     let map = with_subcommand uses (files_shape (codes "map")) in
     let bodies = with_subcommand map (files_shape (codes "bodies")) in
     let check = with_subcommand bodies check_shape in
-    let report = with_subcommand check report_shape in
+    let diff = with_subcommand check (verbose_shape (codes "diff")) in
+    let report = with_subcommand diff report_shape in
     let json = with_subcommand report (files_shape (codes "json")) in
     with_subcommand json (out_shape (codes "html"))
 
 -- what is made of the survey of tables: the listing, with what methods declare or not; the objects at the path that a
 -- text spells; the uses of such a path, or of all; the map of the bytes; the methods; what a check finds, unfolded or
--- not, but for findings of these ids; the report, unfolded or not; JSON; a page, in the file of a name
+-- not, but for findings of these ids; what differs between two machines, unfolded or not; the report, unfolded or not;
+-- JSON; a page, in the file of a name
 pub data Command : Type 0 where
   listing : Bool → Command
   showing : Text → Command
@@ -74,6 +88,7 @@ pub data Command : Type 0 where
   mapping : Command
   telling_bodies : Command
   checking : Bool → List CheckId → Command
+  differing : Bool → Command
   reporting : Bool → Command
   json : Command
   paging : Text → Command
@@ -98,10 +113,11 @@ topic_of name =
     else (if bytes_eq name (codes "map") then Some topics.Map
     else (if bytes_eq name (codes "bodies") then Some topics.Bodies
     else (if bytes_eq name (codes "check") then Some topics.Check
+    else (if bytes_eq name (codes "diff") then Some topics.Diff
     else (if bytes_eq name (codes "report") then Some topics.Report
     else (if bytes_eq name (codes "json") then Some topics.Json
     else (if bytes_eq name (codes "html") then Some topics.Html
-    else None))))))))
+    else None)))))))))
 
 -- what help is about among these arguments: the command that the first names, or else the program
 abbrev pub topic_in : List Text → Topic
@@ -163,6 +179,22 @@ ignored_by rows = ids_of (unwrap_or (all_of (codes "ignore") rows) [])
 abbrev pub check_by : List Row → Option Command
 check_by rows = option_map (checking (is_given (codes "verbose") rows)) (ignored_by rows)
 
+-- decimal digits of a number from 60 to 1,000
+abbrev pub is_width : Text → Bool
+is_width text =
+    all_ascii_digits text
+    && (nat_le 60 (digits_value 10 text) && nat_le (digits_value 10 text) 1000)
+
+-- the width that stands behind `--width`, which is one, or none
+abbrev pub has_width : Option Text → Bool
+has_width said = option_map_or is_width said true
+
+-- the report, with what stands there
+abbrev pub report_by : List Row → Option Command
+report_by rows =
+    if has_width (first_of (codes "width") rows)
+    then Some (reporting (is_given (codes "verbose") rows)) else None
+
 -- the command of this name that isn't `check`; for `show` the text that stands as PATH, for `html` that which stands as OUT, for `uses` the
 -- first operand, where that begins with `\`
 abbrev pub plain_command : Text → List Row → Option Command
@@ -173,20 +205,23 @@ plain_command name rows =
     then Some (using (path_first (first_of (codes "file") rows)))
     else (if bytes_eq name (codes "map") then Some mapping
     else (if bytes_eq name (codes "bodies") then Some telling_bodies
-    else (if bytes_eq name (codes "report") then Some (reporting (is_given (codes "verbose") rows))
+    else (if bytes_eq name (codes "diff") then Some (differing (is_given (codes "verbose") rows))
+    else (if bytes_eq name (codes "report") then report_by rows
     else (if bytes_eq name (codes "json") then Some json
     else (if bytes_eq name (codes "html") then option_map paging (first_of (codes "out") rows)
-    else None)))))))
+    else None))))))))
 
 -- the command of this name
 abbrev pub command_by : Text → List Row → Option Command
 command_by name rows =
     if bytes_eq name (codes "check") then check_by rows else plain_command name rows
 
--- the files among the operands of a command: of `uses PATH` those behind PATH, at least one
+-- the files among the operands of a command: of `uses PATH` those behind PATH, at least one; of `diff` all, which are two
 abbrev pub files_behind : Command → List Text → Option (List Text)
 files_behind (using (Some path)) (_ ∷ file ∷ files) = Some (file ∷ files)
 files_behind (using (Some path)) _ = None
+files_behind (differing is_verbose) (old ∷ new ∷ []) = Some (old ∷ new ∷ [])
+files_behind (differing is_verbose) _ = None
 files_behind _ operands = Some operands
 
 -- what is asked, where all operands stand as files
@@ -214,7 +249,8 @@ command_in (read.Uses path) = using (option_map (λ word. word.now) path)
 command_in read.Map = mapping
 command_in read.Bodies = telling_bodies
 command_in (read.Check is_verbose ignored) = checking is_verbose ignored.items
-command_in (read.Report is_verbose) = reporting is_verbose
+command_in (read.Diff is_verbose) = differing is_verbose
+command_in (read.Report is_verbose width) = reporting is_verbose
 command_in read.Json = json
 command_in (read.Html out) = paging out.now
 

@@ -1,6 +1,6 @@
 //! Why arguments ask for nothing, in one line.
 
-use crate::words::{is_rooted, topic_of};
+use crate::words::{is_rooted, topic_of, width_of};
 use acpi_check_ids::CheckId;
 use acpi_code::Depth;
 use acpi_text::put_byte;
@@ -20,8 +20,12 @@ enum Fault<'a> {
     NoDepth,
     BadDepth(&'a str),
     NoId,
+    NoWidth,
+    BadWidth(&'a str),
     BadId(&'a str),
     Missing { command: &'a str, operand: &'a str },
+    // An operand behind those of the command.
+    MoreThanTwo,
     ManyCommands,
     MoreThanVersion,
 }
@@ -33,6 +37,8 @@ enum Value {
     Depth,
     // An id of `--ignore`.
     Id,
+    // The number of `--width`.
+    Width,
 }
 
 // The arguments of a command, as far as they are read.
@@ -43,6 +49,7 @@ struct Operation<'a> {
     has_depth: bool,
     has_bodies: bool,
     has_verbose: bool,
+    has_width: bool,
     // What the next argument is, where an option needs it.
     needed: Option<Value>,
     // Whether `--` ended the options.
@@ -103,10 +110,19 @@ fn check_id(value: &str) -> Result<(), Fault<'_>> {
     }
 }
 
+fn check_width(value: &str) -> Result<(), Fault<'_>> {
+    match width_of(value) {
+        Some(_) => Ok(()),
+        None if value.is_empty() => Err(Fault::NoWidth),
+        None => Err(Fault::BadWidth(value)),
+    }
+}
+
 fn check_value(needed: Value, value: &str) -> Result<(), Fault<'_>> {
     match needed {
         Value::Depth => check_depth(value),
         Value::Id => check_id(value),
+        Value::Width => check_width(value),
     }
 }
 
@@ -115,6 +131,7 @@ fn no_value<'a>(needed: Value) -> Fault<'a> {
     match needed {
         Value::Depth => Fault::NoDepth,
         Value::Id => Fault::NoId,
+        Value::Width => Fault::NoWidth,
     }
 }
 
@@ -135,6 +152,7 @@ impl<'a> Operation<'a> {
             has_depth: false,
             has_bodies: false,
             has_verbose: false,
+            has_width: false,
             needed: None,
             has_ended: false,
             has_path: false,
@@ -181,11 +199,15 @@ impl<'a> Operation<'a> {
                 self.read_value(Value::Depth, value)
             }
             "--ignore" if self.command == "check" => self.read_value(Value::Id, value),
+            "--width" if self.command == "report" => {
+                note_once(&mut self.has_width, name)?;
+                self.read_value(Value::Width, value)
+            }
             "--bodies" if self.command == "list" => {
                 check_no_value(name, value)?;
                 note_once(&mut self.has_bodies, name)
             }
-            _ if self.command == "report" || self.command == "check" => {
+            _ if matches!(self.command, "check" | "diff" | "report") => {
                 self.read_verbose(option, name, value)
             }
             _ => Err(self.unknown(option)),
@@ -202,7 +224,7 @@ impl<'a> Operation<'a> {
         }
     }
 
-    // Reads an option that only `report` and `check` have.
+    // Reads an option that only `check`, `diff` and `report` have.
     fn read_verbose(
         &mut self,
         option: &'a str,
@@ -232,6 +254,7 @@ impl<'a> Operation<'a> {
             "show" => Some("a PATH"),
             "uses" if self.has_path => Some("a PATH"),
             "html" => Some("an OUT"),
+            "diff" => Some("OLD"),
             _ => None,
         }
     }
@@ -241,8 +264,12 @@ impl<'a> Operation<'a> {
         if let Some(value) = self.needed {
             return Err(no_value(value));
         }
+        if self.command == "diff" && self.operands > 2 {
+            return Err(Fault::MoreThanTwo);
+        }
         let operand = match (self.first_operand(), self.operands) {
             (Some(first), 0) => first,
+            (Some("OLD"), 1) => "NEW",
             (Some(_), 1) | (None, 0) => "a FILE",
             _ => return Ok(()),
         };
@@ -328,10 +355,13 @@ fn put_fault(text: &mut Text, fault: &Fault<'_>) {
         Fault::NoDepth => text.put("--depth needs a number"),
         Fault::BadDepth(value) => put_each(text, &["--depth ", value, ": from 1 to 4096"]),
         Fault::NoId => text.put("--ignore needs an ID"),
+        Fault::NoWidth => text.put("--width needs a number"),
+        Fault::BadWidth(value) => put_each(text, &["--width ", value, ": from 60 to 1000"]),
         Fault::BadId(value) => put_each(text, &["--ignore ", value, ": no such ID"]),
         Fault::Missing { command, operand } => {
             put_each(text, &[command, ": ", operand, " is missing"])
         }
+        Fault::MoreThanTwo => text.put("diff takes OLD and NEW alone"),
         Fault::ManyCommands => text.put("help takes one command"),
         Fault::MoreThanVersion => text.put("--version takes no arguments"),
     }

@@ -14,6 +14,7 @@ acpins-survey: what the tables DSDT and SSDT declare or may declare, and under w
   acpins-survey map FILE..          what each byte of each table is
   acpins-survey bodies FILE..       every method: read, or why not
   acpins-survey check FILE..        what is wrong, or probably a mistake
+  acpins-survey diff OLD NEW        what differs between two machines
   acpins-survey report FILE..       an overview for people
   acpins-survey json FILE..         all of it, for programs
   acpins-survey html OUT FILE..     the overview as one page
@@ -31,12 +32,13 @@ of letters. Other tables in it are passed over. The first table is the DSDT.
   --depth N  the greatest level that a term may have, 1 to 4096; 1024 without it
   --bodies   list has the objects that methods declare too
   --ignore   check leaves out the findings of the ID behind it
-  -v         report and check tell all of it: nothing is folded or cut short
+  -v         check, diff and report tell all of it: nothing is folded or cut short
   -h         the same as --help
   --         ends the options
 
-The status is 0 where all is read, 3 where a table has a problem or check finds an error or a
-warning, 1 where a file or the output fails, and 2 where the arguments or PATH are wrong.
+The status is 0 where all is read, 3 where a table has a problem, check finds an error or a
+warning, or diff a difference, 1 where a file or the output fails, and 2 where the arguments or
+PATH are wrong.
 ";
 
 const LIST: &str = "\
@@ -86,27 +88,38 @@ remark. Findings that are alike share a line; with -v each has its own. Those wi
 --ignore are left out and not counted. The last line counts the others.
 ";
 
-const REPORT: &str = "\
-acpins-survey report [-v] [--hex] [--depth N] FILE..
+const DIFF: &str = "\
+acpins-survey diff [-v] [--hex] [--depth N] OLD NEW
 
-prints an overview: problems and notes; the objects with a condition; what an operating system runs
-unasked; the devices with their ids, addresses, resources and wake; power and thermal objects; the
-address spaces that the tables touch; and what looks wrong. With -v siblings that are alike have a
-line each, and no list is cut short. It has colours where standard output is a terminal and
-NO_COLOR is unset or empty.
+prints what differs between two machines, each of them a file or a folder: the tables; the devices
+that are gone (-), new (+) or moved (>); what a system sees without running code; the objects of
+devices that stayed; field lists; and lines of method bodies. What is alike is told once, and long
+lists are cut short; with -v nothing is. The status is 0 where both have the same objects and
+bodies, wherever they stand in the tables, and 3 where they differ.
+";
+
+const REPORT: &str = "\
+acpins-survey report [-v] [--width N] [--hex] [--depth N] FILE..
+
+prints an overview: what was found wrong, as check finds it; what the machine is: its devices of
+note, sleep, wake, events, interrupt routing, heat and power; the tree of its devices with their
+ids, addresses and resources; the regions of addresses that its code touches; and the objects with
+a condition. With -v nothing is folded or cut short. Lines have at most 100 characters, or N, from
+60 to 1000. It has colours where standard output is a terminal and NO_COLOR is unset or empty.
 ";
 
 const JSON: &str = "\
 acpins-survey json [--hex] [--depth N] FILE..
 
-prints one object of JSON with all that list, show, bodies and the headers of the tables say.
+prints one object of JSON with all that list, show, bodies, uses, check, report and the headers of
+the tables say.
 ";
 
 const HTML: &str = "\
 acpins-survey html [--hex] [--depth N] OUT FILE..
 
 writes the report to the file OUT as one page of HTML, which needs no other file and no script:
-with a map of the addresses, the tree of the devices, and the bytes of each table beside what they
+with the code of each method, a map of the addresses, and the bytes of each table beside what they
 are. It prints nothing. OUT must not be a file that holds ACPI tables. What stood in OUT stays
 until the page is whole.
 ";
@@ -121,6 +134,7 @@ pub fn help_of(topic: Topic) -> &'static str {
         Topic::Map => MAP,
         Topic::Bodies => BODIES,
         Topic::Check => CHECK,
+        Topic::Diff => DIFF,
         Topic::Report => REPORT,
         Topic::Json => JSON,
         Topic::Html => HTML,

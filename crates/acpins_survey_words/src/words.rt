@@ -1,6 +1,6 @@
 //! What the arguments ask for.
 
-ghost use Rattle.std.specs.Prelude.{◌≡◌, ◌∷◌, [], false, IfOk, None, codes, option_map};
+ghost use Rattle.std.specs.Prelude.{◌≡◌, ◌∷◌, [], false, IfOk, None, codes, is_some, option_map};
 ghost use Rattle.clap.specs.Matches.{found_of};
 ghost use Rattle.clap.specs.Simple.{app_of};
 ghost use Rattle.clap.specs.Walk.{rows_of, rule_of, texts};
@@ -10,8 +10,8 @@ ghost use Rattle.acpins_survey_words.specs.Words.{asked_in, asked_of, asks_help,
 ghost use Rattle.acpins_survey_words.specs.Words.{check_shape, files_behind, ids_of, ignore_rule, ignored_by};
 ghost use Rattle.acpins_survey_words.specs.Words.{is_rooted, list_shape, path_first, plain_command};
 ghost use Rattle.acpins_survey_words.specs.Words.{help_in, invocation_in, invocation_of, is_end, is_help};
-ghost use Rattle.acpins_survey_words.specs.Words.{lone_invocation, named_invocation, report_shape, survey_app};
-ghost use Rattle.acpins_survey_words.specs.Words.{topic_in, topic_of, verbose_rule};
+ghost use Rattle.acpins_survey_words.specs.Words.{lone_invocation, named_invocation, survey_app};
+ghost use Rattle.acpins_survey_words.specs.Words.{is_width, report_by, report_shape, topic_in, topic_of, verbose_rule, verbose_shape, width_rule};
 
 use acpi_check_ids::CheckId;
 use acpi_code::Depth;
@@ -47,10 +47,17 @@ pub enum Command<'a> {
         /// The ids of the findings that are left out.
         ignored: Vec<CheckId>,
     },
+    /// What differs between two machines: the tables of the first file and those of the second one.
+    Diff {
+        /// Whether nothing is folded.
+        is_verbose: bool,
+    },
     /// An overview for people.
     Report {
         /// Whether siblings that are alike have a line each, and long lists are whole.
         is_verbose: bool,
+        /// The most characters of a line, from 60 to 1,000, where they are given.
+        width: Option<usize>,
     },
     /// All of it, as JSON.
     Json,
@@ -88,6 +95,8 @@ pub enum Topic {
     Bodies,
     /// `check`
     Check,
+    /// `diff`
+    Diff,
     /// `report`
     Report,
     /// `json`
@@ -118,6 +127,7 @@ pub(crate) fn topic_of(name: &str) -> Option<Topic>
         "map" => Some(Topic::Map),
         "bodies" => Some(Topic::Bodies),
         "check" => Some(Topic::Check),
+        "diff" => Some(Topic::Diff),
         "report" => Some(Topic::Report),
         "json" => Some(Topic::Json),
         "html" => Some(Topic::Html),
@@ -211,6 +221,15 @@ fn ignore<'a>(alloc: Global) -> Arg<'a>
         .action(ArgAction::Append)
 }
 
+fn width<'a>(alloc: Global) -> Arg<'a>
+    ensures rule { rule_of result ≡ width_rule }
+    ensures local { result.global ≡ false }
+{
+    Arg::new(alloc, "width")
+        .long("width")
+        .action(ArgAction::Set)
+}
+
 fn bodies<'a>(alloc: Global) -> Arg<'a>
     ensures rule { rule_of result ≡ bodies_rule }
     ensures local { result.global ≡ false }
@@ -238,12 +257,22 @@ fn check_form<'a>(alloc: Global) -> Result<clap::Command<'a>, AllocError>
         .arg(ignore(alloc))
 }
 
-// The report's form: a command over files with `-v`.
+// The form of the report: a command over files with `-v` and `--width NUMBER`.
 fn report_form<'a>(alloc: Global) -> Result<clap::Command<'a>, AllocError>
     ensures app { IfOk result (λ command. app_of command ≡ alone report_shape) }
     ensures local { IfOk result (λ command. (fields_of command).has_globals ≡ false) }
 {
-    over_files(alloc, "report")?.arg(verbose(alloc))
+    over_files(alloc, "report")?
+        .arg(verbose(alloc))?
+        .arg(width(alloc))
+}
+
+// The form of `diff`: a command of that name over files with `-v`.
+fn verbose_form<'a>(alloc: Global, name: &'a str) -> Result<clap::Command<'a>, AllocError>
+    ensures app { IfOk result (λ command. app_of command ≡ alone (verbose_shape name.now)) }
+    ensures local { IfOk result (λ command. (fields_of command).has_globals ≡ false) }
+{
+    over_files(alloc, name)?.arg(verbose(alloc))
 }
 
 fn forms<'a>(alloc: Global) -> Result<clap::Command<'a>, AllocError>
@@ -255,6 +284,7 @@ fn forms<'a>(alloc: Global) -> Result<clap::Command<'a>, AllocError>
     let command = with(command, over_files(alloc, "map"))?;
     let command = with(command, over_files(alloc, "bodies"))?;
     let command = with(command, check_form(alloc))?;
+    let command = with(command, verbose_form(alloc, "diff"))?;
     let command = with(command, report_form(alloc))?;
     let command = with(command, over_files(alloc, "json"))?;
     with(command, over_out(alloc, "html"))
@@ -318,6 +348,35 @@ fn check_in<'a>(alloc: Global, found: &ArgMatches<'a>) -> Result<Option<Command<
     }
 }
 
+/// The number of columns that decimal digits say, from 60 to 1,000.
+pub(crate) fn width_of(text: &str) -> Option<usize>
+    ensures { is_some result ≡ is_width text.now }
+{
+    let mut width: usize = 0;
+    for digit in text.as_bytes() {
+        if !digit.is_ascii_digit() || width > 1000 {
+            return None;
+        }
+        width = width * 10 + usize::from(*digit - b'0');
+    }
+    if width < 60 || width > 1000 {
+        return None;
+    }
+    Some(width)
+}
+
+// The report, with what was found for it; None where its width is none.
+fn report_in<'a>(found: &ArgMatches<'a>) -> Option<Command<'a>>
+    ensures { option_map command_in result ≡ report_by (rows_of (found_of found.now)) }
+{
+    let is_verbose = has_flag(found, "verbose");
+    let width = match found.get_str("width") {
+        Some(text) => Some(width_of(text)?),
+        None => None,
+    };
+    Some(Command::Report { is_verbose, width })
+}
+
 // The command of this name, where it is another than `check`, with what was found for it.
 fn plain_command<'a>(name: &str, found: &ArgMatches<'a>) -> Option<Command<'a>>
     ensures { option_map command_in result ≡ plain_command name.now (rows_of (found_of found.now)) }
@@ -330,9 +389,10 @@ fn plain_command<'a>(name: &str, found: &ArgMatches<'a>) -> Option<Command<'a>>
         "uses" => Some(Command::Uses(path_first(found.get_str("file")))),
         "map" => Some(Command::Map),
         "bodies" => Some(Command::Bodies),
-        "report" => Some(Command::Report {
+        "diff" => Some(Command::Diff {
             is_verbose: has_flag(found, "verbose"),
         }),
+        "report" => report_in(found),
         "json" => Some(Command::Json),
         "html" => Some(Command::Html(found.get_str("out")?)),
         _ => None,
@@ -355,7 +415,7 @@ fn command_in<'a>(
     }
 }
 
-// The files among the operands of a command: of `uses PATH` those behind PATH, at least one.
+// The files among the operands of a command: of `uses PATH` those behind PATH, at least one; of `diff` all, which are two.
 fn files_behind<'s, 'a>(command: &Command<'a>, operands: &'s [&'a str]) -> Option<&'s [&'a str]>
     ensures { option_map (λ files. texts files.now) result
         ≡ files_behind (command_in command.now) (texts operands.now) }
@@ -363,6 +423,10 @@ fn files_behind<'s, 'a>(command: &Command<'a>, operands: &'s [&'a str]) -> Optio
     match command {
         Command::Uses(Some(_)) => match operands {
             [_, files @ ..] if !files.is_empty() => Some(files),
+            _ => None,
+        },
+        Command::Diff { .. } => match operands {
+            [_, _] => Some(operands),
             _ => None,
         },
         _ => Some(operands),

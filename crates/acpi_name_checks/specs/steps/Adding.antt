@@ -5,9 +5,8 @@ use Rattle.acpi_name.specs.Names.{NameParts}
 use Rattle.acpi_name.specs.NameEqual.{name_eq}
 use Rattle.acpi_name_checks.specs.NoNames.{NoNameParts, has_same_name}
 
--- whether one of them has the name
-abbrev pub is_among : List NoNameParts → NameParts → Bool
-is_among xs n = list_any (λ (x : NoNameParts). name_eq x.name n) xs
+abbrev pub name_of : NoNameParts → NameParts
+name_of x = x.name
 
 -- one more, unless one of them is the same
 abbrev pub with_first : {X : Type 0} → (same : X → X → Bool) → List X → X → List X

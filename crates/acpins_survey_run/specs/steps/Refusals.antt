@@ -7,7 +7,7 @@ use Rattle.acpins_survey_words.specs.Words.{Asked, survey}
 use Rattle.acpins_survey_run.specs.FailureLines.{printed_name}
 use Rattle.acpins_survey_run.specs.Folders.{FolderNames}
 use Rattle.acpins_survey_run.specs.Input.{AreFilesOf, IsInputFault, LastErrors}
-use Rattle.acpins_survey_run.specs.Runs.{IsMadeOf, Makes, page_file}
+use Rattle.acpins_survey_run.specs.Runs.{AreNamesOf, IsMadeOf, Makes, page_file}
 use Rattle.acpins_survey_run.specs.Stored.{IsUnspared}
 use Rattle.acpins_survey_run.specs.declared.failure.ReadCause.{ReadCause}
 use Rattle.acpins_survey_run.specs.declared.failure.Failure.{Failure}
@@ -40,15 +40,26 @@ IsUnwritten out (Out printed kind) =
 IsUnwritten out Memory = Unit {0}
 IsUnwritten out _ = ⊥
 
--- why the tables that the arguments stand for aren't had
-abbrev pub IsTablesFault : FileBytes → FolderNames → LastErrors → Asked → Failure → Type 0
-IsTablesFault files folders last asked (HoldsTables printed) =
+-- why the tables that these arguments stand for aren't had
+abbrev pub IsTablesFault : FileBytes → FolderNames → LastErrors → Asked → List Text → Failure → Type 0
+IsTablesFault files folders last asked names (HoldsTables printed) =
     (out : Text) × (sources : List (List ℕ)) × (page_file asked.command ≡ Some out)
     × (printed.items ≡ printed_name out)
-    × AreFilesOf folders asked.files sources × IsUnspared files sources out
-IsTablesFault files folders last asked Memory = Unit {0}
-IsTablesFault files folders last asked failure =
-    IsInputFault files folders last asked.hex asked.files failure
+    × AreFilesOf folders names sources × IsUnspared files sources out
+IsTablesFault files folders last asked names Memory = Unit {0}
+IsTablesFault files folders last asked names failure =
+    IsInputFault files folders last asked.hex names failure
+
+-- why those of one of the machines aren't had
+abbrev pub IsMachinesFault : FileBytes → FolderNames → LastErrors → Asked → Failure → Type 0
+IsMachinesFault files folders last asked (HoldsTables printed) =
+    (names : List Text) × AreNamesOf asked names
+    × (out : Text) × (sources : List (List ℕ)) × (page_file asked.command ≡ Some out)
+    × (printed.items ≡ printed_name out)
+    × AreFilesOf folders names sources × IsUnspared files sources out
+IsMachinesFault files folders last asked Memory = Unit {0}
+IsMachinesFault files folders last asked failure = (names : List Text) × AreNamesOf asked names
+    × IsInputFault files folders last asked.hex names failure
 
 -- what a survey prints
 abbrev pub IsPrinted : FileBytes → FolderNames → Makes → Asked → ℕ → List ℕ → Type 0

@@ -15,6 +15,9 @@ each-preserved c =
     let xs = c.deref-used-items.result.now in
     let i = c.each.used-index in
     let w = c.used-item.result in
-    c.in_ok-put_lost.ensures
-    ∙ ap (λ (ns : List NameParts). with_element_if (lost (use_view w)) ns w.name.now) c.each.invariant
-    ∙ sym (firsts_taken name_eq name_eq_equiv use_view lost (λ (u : UseParts). u.0) xs i w c.each-test.true c.used-item.is)
+    record {
+      names = c.in_ok-put_lost.ensures.names
+          ∙ ap (λ (ns : List NameParts). with_element_if (lost (use_view w)) ns w.name.now) c.each.invariant.names
+          ∙ sym (firsts_taken name_eq name_eq_equiv use_view lost (λ (u : UseParts). u.0) xs i w c.each-test.true c.used-item.is);
+      listed = c.in_ok-put_lost.ensures.listed;
+    }

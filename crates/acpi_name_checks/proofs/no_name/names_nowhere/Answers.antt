@@ -27,4 +27,5 @@ each-preserved c =
           ∙ ap (λ (b : Bool). with_name_if b (no_name_views c.each.found.items) (no_name_of n)) same
           ∙ ap (λ (xs : List NoNameParts). with_name_if (lost n) xs (no_name_of n)) c.each.invariant.found
           ∙ sym (firsts_taken has_same_name same_name_equiv name_view lost no_name_of c.args.names.now c.each.name-index w c.each-test.true c.name-item.is);
+      listed = c.in_ok-put_lost.ensures.listed;
     }

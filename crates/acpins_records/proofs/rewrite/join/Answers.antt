@@ -1,5 +1,5 @@
 use Rattle.std.proofs.Common.{[], ◌∷◌, ◌++◌, ap, ◌∙◌}
-use Rattle.acpins_records.proofs.Joins.{joined_next, ends_next}
+use Rattle.acpins_lent.proofs.Joins.{joined_next, ends_next}
 use Rattle.acpins_records.proofs.rewrite.join.Goals as goal
 
 pub loop-table-preserved : goal.loop-table-preserved

@@ -1,9 +1,9 @@
-use Rattle.std.proofs.Common.{◌≡◌, ℕ, List, Some, None, subst, sym}
+use Rattle.std.proofs.Common.{ℕ, List, Some, None, subst, sym}
 use Rattle.acpi_findings.specs.declared.findings.Findings.{Findings}
 use Rattle.acpi_survey.specs.declared.machine_survey.Survey.{Survey}
 use Rattle.acpins_page.specs.Page.{IsPage}
 use Rattle.acpins_page.specs.declared.style.TheConstants.{HEAD}
-use Rattle.acpins_survey_words.specs.Words.{Command, listing, showing, using, mapping, telling_bodies, checking, reporting, json, paging}
+use Rattle.acpins_survey_words.specs.Words.{Command, listing, showing, using, mapping, telling_bodies, checking, differing, reporting, json, paging}
 use Rattle.acpins_survey_run.specs.Prints.{IsPrintOf}
 use Rattle.acpins_survey_run.specs.declared.printing.Print.TheVariants as prints
 use Rattle.acpins_survey_texts.specs.Texts.{IsTextOf}
@@ -18,6 +18,7 @@ page_text (using (Some word)) s f text is page = absurd is
 page_text mapping s f text is page = absurd is
 page_text telling_bodies s f text is page = absurd is
 page_text (checking is_verbose ids) s f text is page = absurd is
+page_text (differing is_verbose) s f text is page = absurd is
 page_text (reporting is_verbose) s f text is page = absurd is
 page_text json s f text is page = absurd is
 

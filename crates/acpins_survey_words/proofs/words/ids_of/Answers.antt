@@ -1,4 +1,4 @@
-use Rattle.std.proofs.Common.{◌≡◌, ◌∙◌, ◌+◌, ◌<◌, ◌≤◌, ap, arith, drop, length, sym}
+use Rattle.std.proofs.Common.{◌∙◌, ◌+◌, ◌<◌, ◌≤◌, ap, arith, drop, length, sym}
 use Rattle.clap.specs.Walk.{texts}
 use Rattle.acpins_survey_words.proofs.Ids.{all_read, ids_behind, id_read, not_read, texts_behind, texts_from}
 use Rattle.acpins_survey_words.proofs.words.ids_of.Goals as goal

@@ -1,6 +1,0 @@
-use Rattle.std.proofs.Common.{◌≡◌, take}
-use Rattle.acpins_records.specs.Written.{bytes_of}
-use Rattle.acpins_records.proofs.refusing.copy_tables.Given as goal
-
-abbrev pub invariant-loop-table : goal.invariant-loop-table
-invariant-loop-table l = l.copies.items ≡ bytes_of (take l.table-index l.tables)
