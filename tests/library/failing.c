@@ -1,5 +1,5 @@
-/* failing PATH FILE..: makes each call over the tables with each of its allocations refused in turn; behind the first
- * 2,048 the steps grow. PATH is that of a method which a table declares, or empty where there is none. Each time all
+/* failing PATH FILE..: makes each call over the tables with each of its allocations refused in turn; of a call of the
+ * survey the steps grow behind the first 2,048. PATH is that of a method which a table declares, or empty where there is none. Each time all
  * memory must be given back, and the answer be either ACPINS_MEMORY, with nothing else told and the arrays as they were,
  * or the same as when nothing is refused (a list that can't be made shorter stays as it is). Then each array is one
  * place too short. */
@@ -198,7 +198,7 @@ static int is_told(const struct acpins_body *told_body, const struct acpins_verd
 
 enum { EACH = 2048 };
 
-/* Each allocation refused in turn, and of many behind the first ones some: how many were. */
+/* Each allocation refused in turn, and of the survey's calls some behind the first ones: how many were. */
 static size_t refuse_each(void (*call)(void), size_t *in_vain) {
     static const struct acpins_outcome nothing;
     static const struct acpins_survey_outcome none;
@@ -208,7 +208,7 @@ static size_t refuse_each(void (*call)(void), size_t *in_vain) {
     struct acpins_body told_body = body;
     struct acpins_verdict told_verdict = verdict;
     size_t count = 0;
-    for (size_t n = 1;; n += 1 + n / EACH) {
+    for (size_t n = 1;; n += is_survey ? 1 + n / EACH : 1) {
         for (int i = 0; i < ARRAYS; i++) memset(arrays[i].bytes, FILLED, bytes_of(&arrays[i]));
         left = n;
         fill_records();
